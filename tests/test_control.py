@@ -31,6 +31,8 @@ from lib.stores import new_store
 PATIENCE, MARGIN = 2, 2
 NOT_FOUND = reply(404, b"not found\n")
 WAYS = {"--control": CONTROL, "--db": "other.db"}
+# the lists, and how many lines each has at the least after ORDERS
+LISTS = {"key-list": 4, "shelf-list": 4}
 
 # each is run with `--db`, and with `--control` while another store is served; both end with this
 ORDERS = """
@@ -183,7 +185,7 @@ def make_orders() -> Ordered:
     with Server("served.db", CONTROL) as server:
         words = [words_of(line.partition(" | ")[0]) for line in ORDERS]
         endings = {way: [run_by(way, order) for order in words] for way in WAYS}
-        lists = {way: {name: run_by(way, [name]) for name in ("key-list", "shelf-list")} for way in WAYS}
+        lists = {way: {name: run_by(way, [name]) for name in LISTS} for way in WAYS}
         replies = {letter: server.exchange(get(LIST, KEYS[letter])) for letter in "ARMPCN"}
         publish = [server.status(put("example.com/lib", "v1.0.0", GOMOD, key=KEYS[letter])) for letter in "AR"]
         held = run(["team-add", "--db", "served.db", "--team", "eta"])
@@ -201,10 +203,10 @@ def test_order_ends_alike_by_both_ways(ordered: Ordered, number: int, way: str) 
     assert ordered.endings[way][number] == (int(status), b"", f"goshelf: {word}\n" if word else "")
 
 
-@pytest.mark.parametrize("name", ["key-list", "shelf-list"])
+@pytest.mark.parametrize("name", LISTS)
 def test_list_is_the_same_by_both_ways(ordered: Ordered, name: str) -> None:
     assert ordered.lists["--control"][name] == ordered.lists["--db"][name]
-    assert ordered.lists["--control"][name][1].count(b"\n") >= 4
+    assert ordered.lists["--control"][name][1].count(b"\n") >= LISTS[name]
 
 
 @pytest.mark.parametrize("letter", "ARMPCN")

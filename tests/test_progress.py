@@ -145,7 +145,7 @@ class TestImportElsewhere:
         status, _, text = both.end()
         assert (status, text) == (0, "".join(f"{number} 201 published\r\n" for number in (1, 2, 3, 4)))
 
-    def test_a_list_from_a_pipe_has_no_percentage(self, folder: str) -> None:
+    def test_a_list_from_a_pipe_has_a_percentage_too(self, folder: str) -> None:
         write_rows()
         os.mkfifo("rows")
         shown = OnTerminal(*list_import(make_store(), "rows"))
@@ -154,7 +154,7 @@ class TestImportElsewhere:
         feed("second.zip", HELD)
         first = screen(shown.await_line())[0][0]
         feed("third.zip")
-        assert re.fullmatch(f"import: {RATE}", first)
+        assert re.fullmatch(f"import: (25|50|75) %, {RATE}{LEFT}", first)
         assert shown.end()[0] == 0
 
 

@@ -10,6 +10,7 @@ use Rattle.commands.specs.declared.action.Action.TheVariants as action
 use Rattle.socket.specs.declared.deed.ListenOn.{ListenOn}
 use Rattle.socket.specs.declared.deed.ListenOn.TheVariants.{Input, Port}
 use Rattle.orders.specs.declared.listing.Listing.TheVariants.{Keys, Shelves}
+use Rattle.orders.specs.declared.order.Order.TheVariants as order
 use Rattle.orders.specs.declared.command.RegistryCommand.{RegistryCommand}
 use Rattle.runner.specs.declared.Command.{Command}
 use Rattle.runner.specs.declared.Command.TheVariants as command
@@ -107,8 +108,7 @@ no_serve rows none (action.Import key list) asks = cc
 no_serve rows none (action.Inventory key) asks = cc
 no_serve rows none (action.Catalog key) asks = asks
 no_serve rows none (action.Requires version) asks = cc
-no_serve rows none action.KeyList asks = asks
-no_serve rows none action.ShelfList asks = asks
+no_serve rows none (action.List listing) asks = asks
 no_serve rows none (action.Serve entrance connections control) asks = none connections asks.2
 
 -- where a file is named, only an action is asked for
@@ -117,35 +117,35 @@ pub no_other_command : (rows : List Row) (word db : Text) → Is rows (codes "db
 no_other_command rows word db is acts (command.OnStore name a) asks = acts a asks.1
 no_other_command rows word db is acts (command.OrderNew control shelf right) asks =
     let bad : None ≡ Some db = sym asks.1 ∙ is in cc
-no_other_command rows word db is acts (command.OrderNamed control fingerprint) asks =
+no_other_command rows word db is acts (command.Send control (order.RevokeByFingerprint fingerprint)) asks =
     let bad : None ≡ Some db = sym asks.1 ∙ is in cc
 no_other_command rows word db is acts (command.Init name) asks = asks
 no_other_command rows word db is acts (command.AnswerInMemory team key) asks = asks
 no_other_command rows word db is acts (command.Extract name teams to) asks = asks
 no_other_command rows word db is acts (command.Migrate from to) asks = asks
-no_other_command rows word db is acts (command.Order control o) asks = asks
-no_other_command rows word db is acts (command.Copy control to) asks = asks
-no_other_command rows word db is acts (command.Ping control) asks = asks
-no_other_command rows word db is acts (command.List control listing) asks = asks
-no_other_command rows word db is acts (command.Catalog control key) asks = asks
-no_other_command rows word db is acts (command.Stop control) asks = asks
+no_other_command rows word db is acts (command.Send control (order.Registry o)) asks = asks
+no_other_command rows word db is acts (command.Send control (order.Copy to)) asks = asks
+no_other_command rows word db is acts (command.Send control order.Ping) asks = asks
+no_other_command rows word db is acts (command.Send control (order.List listing)) asks = asks
+no_other_command rows word db is acts (command.Send control (order.Catalog key)) asks = asks
+no_other_command rows word db is acts (command.Send control order.Stop) asks = asks
 
 -- where no file is named, these two words alone ask for a command that names no registry command
 pub no_sent : (rows : List Row) (word : Text) → Lacks rows (codes "db") → (word ≡ codes "key-add" → ⊥)
     → (word ≡ codes "key-revoke" → ⊥) → (asked : Command) → AsksOtherCommand rows word asked → ⊥
 no_sent rows word lacks add revoke (command.OnStore db a) asks = let bad : None ≡ Some db.now = sym lacks ∙ asks.0 in cc
 no_sent rows word lacks add revoke (command.OrderNew control shelf right) asks = add asks.0
-no_sent rows word lacks add revoke (command.OrderNamed control fingerprint) asks = revoke asks.0
+no_sent rows word lacks add revoke (command.Send control (order.RevokeByFingerprint fingerprint)) asks = revoke asks.0
 no_sent rows word lacks add revoke (command.Init name) asks = asks
 no_sent rows word lacks add revoke (command.AnswerInMemory team key) asks = asks
 no_sent rows word lacks add revoke (command.Extract name teams to) asks = asks
 no_sent rows word lacks add revoke (command.Migrate from to) asks = asks
-no_sent rows word lacks add revoke (command.Order control o) asks = asks
-no_sent rows word lacks add revoke (command.Copy control to) asks = asks
-no_sent rows word lacks add revoke (command.Ping control) asks = asks
-no_sent rows word lacks add revoke (command.List control listing) asks = asks
-no_sent rows word lacks add revoke (command.Catalog control key) asks = asks
-no_sent rows word lacks add revoke (command.Stop control) asks = asks
+no_sent rows word lacks add revoke (command.Send control (order.Registry o)) asks = asks
+no_sent rows word lacks add revoke (command.Send control (order.Copy to)) asks = asks
+no_sent rows word lacks add revoke (command.Send control order.Ping) asks = asks
+no_sent rows word lacks add revoke (command.Send control (order.List listing)) asks = asks
+no_sent rows word lacks add revoke (command.Send control (order.Catalog key)) asks = asks
+no_sent rows word lacks add revoke (command.Send control order.Stop) asks = asks
 
 -- a word asks for no command that is none of these, and asks for no registry command, and for nothing that is none
 pub no_command : (rows : List Row) (word : Text) → (word ≡ codes "init" → ⊥) → (word ≡ codes "answer" → ⊥)
@@ -156,11 +156,11 @@ pub no_command : (rows : List Row) (word : Text) → (word ≡ codes "init" → 
     → ((o : RegistryCommand) → AsksRegistryCommand rows word o → ⊥)
     → ((c : Command) → AsksOtherCommand rows word c → ⊥)
     → (asked : Command) → AsksCommand rows word asked → ⊥
-no_command rows word init answer extract migrate copy ping keys shelves catalog stop order acts = go
+no_command rows word init answer extract migrate copy ping keys shelves catalog stop registers acts = go
   where
     on_store : (db : _) (a : Action) → AsksCommand rows word (command.OnStore db a) → ⊥
     on_store db action.Open asks = asks.1
-    on_store db (action.Register o) asks = order o asks.2
+    on_store db (action.Register o) asks = registers o asks.2
     on_store db action.Answer asks = answer asks.0
     on_store db (action.AddNew shelf right) asks = acts (command.OnStore db (action.AddNew shelf right)) asks
     on_store db (action.RevokeByFingerprint fingerprint) asks = acts (command.OnStore db
@@ -170,8 +170,8 @@ no_command rows word init answer extract migrate copy ping keys shelves catalog 
     on_store db (action.Inventory key) asks = acts (command.OnStore db (action.Inventory key)) asks
     on_store db (action.Catalog key) asks = catalog asks.0
     on_store db (action.Requires version) asks = acts (command.OnStore db (action.Requires version)) asks
-    on_store db action.KeyList asks = keys asks.0
-    on_store db action.ShelfList asks = shelves asks.0
+    on_store db (action.List Keys) asks = keys asks.0
+    on_store db (action.List Shelves) asks = shelves asks.0
     on_store db (action.Serve entrance connections control) asks =
         acts (command.OnStore db (action.Serve entrance connections control)) asks
 
@@ -181,23 +181,22 @@ no_command rows word init answer extract migrate copy ping keys shelves catalog 
     go (command.OnStore db a) asks = on_store db a asks
     go (command.Extract db teams to) asks = extract asks.0
     go (command.Migrate from to) asks = migrate asks.0
-    go (command.Order control o) asks = order o asks.2
+    go (command.Send control (order.Registry o)) asks = registers o asks.2
     go (command.OrderNew control shelf right) asks = acts (command.OrderNew control shelf right) asks
-    go (command.OrderNamed control fingerprint) asks = acts (command.OrderNamed control fingerprint) asks
-    go (command.Copy control to) asks = copy asks.0
-    go (command.Ping control) asks = ping asks.0
-    go (command.List control Keys) asks = keys asks.0
-    go (command.List control Shelves) asks = shelves asks.0
-    go (command.Catalog control key) asks = catalog asks.0
-    go (command.Stop control) asks = stop asks.0
+    go (command.Send control (order.RevokeByFingerprint fingerprint)) asks = acts (command.Send control (order.RevokeByFingerprint fingerprint)) asks
+    go (command.Send control (order.Copy to)) asks = copy asks.0
+    go (command.Send control order.Ping) asks = ping asks.0
+    go (command.Send control (order.List Keys)) asks = keys asks.0
+    go (command.Send control (order.List Shelves)) asks = shelves asks.0
+    go (command.Send control (order.Catalog key)) asks = catalog asks.0
+    go (command.Send control order.Stop) asks = stop asks.0
 
 -- a command that names no registry command is a command
 is_command : (rows : List Row) (word : Text) (c : Command) → AsksOtherCommand rows word c → AsksCommand rows word c
 is_command rows word (command.OnStore db action.Open) asks = absurd asks.1
 is_command rows word (command.OnStore db (action.Register o)) asks = absurd asks.1
 is_command rows word (command.OnStore db action.Answer) asks = absurd asks.1
-is_command rows word (command.OnStore db action.KeyList) asks = absurd asks.1
-is_command rows word (command.OnStore db action.ShelfList) asks = absurd asks.1
+is_command rows word (command.OnStore db (action.List listing)) asks = absurd asks.1
 is_command rows word (command.OnStore db (action.Catalog key)) asks = absurd asks.1
 is_command rows word (command.OnStore db (action.AddNew shelf right)) asks = asks
 is_command rows word (command.OnStore db (action.RevokeByFingerprint fingerprint)) asks = asks
@@ -207,17 +206,17 @@ is_command rows word (command.OnStore db (action.Inventory key)) asks = asks
 is_command rows word (command.OnStore db (action.Requires version)) asks = asks
 is_command rows word (command.OnStore db (action.Serve entrance connections control)) asks = asks
 is_command rows word (command.OrderNew control shelf right) asks = asks
-is_command rows word (command.OrderNamed control fingerprint) asks = asks
+is_command rows word (command.Send control (order.RevokeByFingerprint fingerprint)) asks = asks
 is_command rows word (command.Init db) asks = absurd asks
 is_command rows word (command.AnswerInMemory team key) asks = absurd asks
 is_command rows word (command.Extract db teams to) asks = absurd asks
 is_command rows word (command.Migrate from to) asks = absurd asks
-is_command rows word (command.Order control o) asks = absurd asks
-is_command rows word (command.Copy control to) asks = absurd asks
-is_command rows word (command.Ping control) asks = absurd asks
-is_command rows word (command.List control listing) asks = absurd asks
-is_command rows word (command.Catalog control key) asks = absurd asks
-is_command rows word (command.Stop control) asks = absurd asks
+is_command rows word (command.Send control (order.Registry o)) asks = absurd asks
+is_command rows word (command.Send control (order.Copy to)) asks = absurd asks
+is_command rows word (command.Send control order.Ping) asks = absurd asks
+is_command rows word (command.Send control (order.List listing)) asks = absurd asks
+is_command rows word (command.Send control (order.Catalog key)) asks = absurd asks
+is_command rows word (command.Send control order.Stop) asks = absurd asks
 
 -- where a word asks for nothing else, what is found among the commands that name no registry command is asked for
 pub other_command : (rows : List Row) (word : Text) (o : Option Command)

@@ -16,6 +16,7 @@ use Rattle.socket.specs.declared.deed.ListenOn.{ListenOn}
 use Rattle.socket.specs.declared.deed.ListenOn.TheVariants.{Input, Port}
 use Rattle.orders.specs.declared.listing.Listing.{Listing}
 use Rattle.orders.specs.declared.listing.Listing.TheVariants.{Keys, Shelves}
+use Rattle.orders.specs.declared.order.Order.TheVariants as order
 use Rattle.orders.specs.declared.command.RegistryCommand.{RegistryCommand}
 use Rattle.orders.specs.declared.command.RegistryCommand.TheVariants.{GroupAdd, KeyAdd, KeyRevoke}
 use Rattle.orders.specs.declared.command.RegistryCommand.TheVariants.{KeysRevoke, TeamAdd}
@@ -101,8 +102,7 @@ module _ (rows : List Row) where
   AsksAction word action.Open = ⊥
   AsksAction word (action.Register command) = ⊥
   AsksAction word (action.Catalog key) = ⊥
-  AsksAction word action.KeyList = ⊥
-  AsksAction word action.ShelfList = ⊥
+  AsksAction word (action.List listing) = ⊥
   AsksAction word action.Answer = ⊥
   AsksAction word (action.AddNew shelf right) = (word ≡ codes "key-add")
       × Is (codes "shelf") shelf.now × (is_flagged (codes "new") ≡ true) × Lacks (codes "key") × Lacks (codes "control")
@@ -129,7 +129,7 @@ module _ (rows : List Row) where
   AsksOtherCommand word (command.OrderNew control shelf right) = (word ≡ codes "key-add") × Lacks (codes "db")
       × Is (codes "control") control.now × Is (codes "shelf") shelf.now × (is_flagged (codes "new") ≡ true)
       × Lacks (codes "key") × (right ≡ (if is_flagged (codes "read-only") then Reads else Publishes))
-  AsksOtherCommand word (command.OrderNamed control fingerprint) = (word ≡ codes "key-revoke") × Lacks (codes "db")
+  AsksOtherCommand word (command.Send control (order.RevokeByFingerprint fingerprint)) = (word ≡ codes "key-revoke") × Lacks (codes "db")
       × Is (codes "control") control.now × Is (codes "fingerprint") fingerprint.now × Lacks (codes "shelf")
       × (is_flagged (codes "all") ≡ false) × Lacks (codes "key")
   AsksOtherCommand word other = ⊥
@@ -146,30 +146,28 @@ module _ (rows : List Row) where
       × AsksRegistryCommand word command
   AsksCommand word (command.OnStore db action.Answer) = (word ≡ codes "answer")
       × Is (codes "db") db.now × (is_flagged (codes "mem") ≡ false) × Lacks (codes "team") × Lacks (codes "key")
-  AsksCommand word (command.OnStore db action.KeyList) = AsksListing word Keys
-      × Is (codes "db") db.now × Lacks (codes "control")
-  AsksCommand word (command.OnStore db action.ShelfList) = AsksListing word Shelves
+  AsksCommand word (command.OnStore db (action.List listing)) = AsksListing word listing
       × Is (codes "db") db.now × Lacks (codes "control")
   AsksCommand word (command.OnStore db (action.Catalog key)) = (word ≡ codes "catalog") × Is (codes "key") key.now
       × Is (codes "db") db.now × Lacks (codes "control")
   AsksCommand word (command.OnStore db action) = AsksOtherCommand word (command.OnStore db action)
   AsksCommand word (command.OrderNew control shelf right) = AsksOtherCommand word (command.OrderNew control shelf right)
-  AsksCommand word (command.OrderNamed control fingerprint) =
-      AsksOtherCommand word (command.OrderNamed control fingerprint)
+  AsksCommand word (command.Send control (order.RevokeByFingerprint fingerprint)) =
+      AsksOtherCommand word (command.Send control (order.RevokeByFingerprint fingerprint))
   AsksCommand word (command.Extract db teams to) = (word ≡ codes "extract")
       × Is (codes "db") db.now × Are (codes "team") teams.now × Is (codes "to") to.now
   AsksCommand word (command.Migrate from to) = (word ≡ codes "migrate") × Is (codes "from") from.now
       × Is (codes "to") to.now
-  AsksCommand word (command.Order control command) = Is (codes "control") control.now × Lacks (codes "db")
+  AsksCommand word (command.Send control (order.Registry command)) = Is (codes "control") control.now × Lacks (codes "db")
       × AsksRegistryCommand word command
-  AsksCommand word (command.Copy control to) = (word ≡ codes "copy") × Is (codes "control") control.now
+  AsksCommand word (command.Send control (order.Copy to)) = (word ≡ codes "copy") × Is (codes "control") control.now
       × Is (codes "to") to.now
-  AsksCommand word (command.Ping control) = (word ≡ codes "ping") × Is (codes "control") control.now
-  AsksCommand word (command.List control listing) = AsksListing word listing
+  AsksCommand word (command.Send control order.Ping) = (word ≡ codes "ping") × Is (codes "control") control.now
+  AsksCommand word (command.Send control (order.List listing)) = AsksListing word listing
       × Is (codes "control") control.now × Lacks (codes "db")
-  AsksCommand word (command.Catalog control key) = (word ≡ codes "catalog") × Is (codes "key") key.now
+  AsksCommand word (command.Send control (order.Catalog key)) = (word ≡ codes "catalog") × Is (codes "key") key.now
       × Is (codes "control") control.now × Lacks (codes "db")
-  AsksCommand word (command.Stop control) = (word ≡ codes "stop") × Is (codes "control") control.now
+  AsksCommand word (command.Send control order.Stop) = (word ≡ codes "stop") × Is (codes "control") control.now
 
 -- the name of a command and its options ask for it
 abbrev pub GivenAsks : Option (Text × List Row) → Command → Type 0

@@ -11,8 +11,9 @@ use Rattle.commands.specs.declared.action.Action.TheVariants.{AddNew, Import, Pu
 use Rattle.commands.specs.declared.action.Action.TheVariants.{RevokeByFingerprint, Serve}
 use Rattle.commands.specs.declared.exit.Exit.{Exit}
 use Rattle.commands.specs.declared.exit.Exit.TheVariants.{Done, Refused, BadUsage}
+use Rattle.orders.specs.declared.order.Order.TheVariants.{Copy}
 use Rattle.runner.specs.declared.Command.{Command}
-use Rattle.runner.specs.declared.Command.TheVariants.{Copy, Extract, Migrate, OnStore}
+use Rattle.runner.specs.declared.Command.TheVariants.{Send, Extract, Migrate, OnStore}
 use Rattle.cli.specs.Asks.{Asks, IsShownFor}
 
 -- How a run ends that shows the parser's text in place of a command, by the text's kind: well for help and the version,
@@ -66,7 +67,7 @@ MayWarn errors errors_new other = errors_new ≡ errors
 abbrev pub MayExplain : Option (List ℕ) → Option (List ℕ) → Command → Result Bool CommandRefusal → Type 0
 MayExplain errors errors_new (Extract db teams to) (Err NotEmpty) = MayPrint errors errors_new (lone_log_line to.now)
 MayExplain errors errors_new (Migrate from to) (Err NotEmpty) = MayPrint errors errors_new (lone_log_line to.now)
-MayExplain errors errors_new (Copy control to) (Err NotEmpty) = MayPrint errors errors_new (lone_log_line to.now)
+MayExplain errors errors_new (Send control (Copy to)) (Err NotEmpty) = MayPrint errors errors_new (lone_log_line to.now)
 MayExplain errors errors_new command told = errors_new ≡ errors
 
 -- `words` are the words after the name of the program

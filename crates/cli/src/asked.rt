@@ -12,7 +12,7 @@ use clap::parser::ValueSource;
 use commands::action::Action;
 use commands::publish::{Files, Words};
 use commands::report::Named;
-use orders::{Listing, RegistryCommand};
+use orders::{Listing, Order, RegistryCommand};
 use runner::Command;
 use socket::ListenOn;
 use world::entry::Right;
@@ -44,18 +44,20 @@ fn command_of_word<'m, 'a>(word: &str, options: &'m ArgMatches<'a>) -> Option<Co
             from: text(options, "from")?,
             to: text(options, "to")?,
         }),
-        "copy" => Some(Command::Copy {
+        "copy" => Some(Command::Send {
             control: text(options, "control")?,
-            to: text(options, "to")?,
+            order: Order::Copy(text(options, "to")?),
         }),
-        "ping" => Some(Command::Ping {
+        "ping" => Some(Command::Send {
             control: text(options, "control")?,
+            order: Order::Ping,
         }),
         "key-list" => key_list_of(options),
         "shelf-list" => shelf_list_of(options),
         "catalog" => catalog_of(options),
-        "stop" => Some(Command::Stop {
+        "stop" => Some(Command::Send {
             control: text(options, "control")?,
+            order: Order::Stop,
         }),
         _ => match registry_command_of(word, options) {
             Some(command) => registering_command(command, options),
@@ -64,8 +66,8 @@ fn command_of_word<'m, 'a>(word: &str, options: &'m ArgMatches<'a>) -> Option<Co
     }
 }
 
-/// Returns the command of a word and options that name no registry command: an action on the store of a file, a key
-/// that is made and sent to a running server, or a fingerprint that is.
+/// Returns the command of a word and options that name no registry command: an action on the store of a file, or an
+/// order to a running server that has a new key or a fingerprint.
 fn other_command<'a>(word: &str, options: &ArgMatches<'a>) -> Option<Command<'a>>
     ensures { Finds result (AsksOtherCommand (rows_of (found_of options.now)) word.now) }
 {
@@ -94,9 +96,9 @@ fn order_revoke_named_of<'a>(options: &ArgMatches<'a>) -> Option<Command<'a>>
         is_flagged(options, "all"),
         text(options, "key"),
     ) {
-        (Some(control), Some(fingerprint), None, false, None) => Some(Command::OrderNamed {
+        (Some(control), Some(fingerprint), None, false, None) => Some(Command::Send {
             control,
-            fingerprint,
+            order: Order::RevokeByFingerprint(fingerprint),
         }),
         _ => None,
     }
@@ -153,11 +155,13 @@ fn key_list_of<'a>(options: &ArgMatches<'a>) -> Option<Command<'a>>
     match (text(options, "db"), text(options, "control")) {
         (Some(db), None) => Some(Command::OnStore {
             db,
-            action: Action::KeyList,
+            action: Action::List {
+                listing: Listing::Keys,
+            },
         }),
-        (None, Some(control)) => Some(Command::List {
+        (None, Some(control)) => Some(Command::Send {
             control,
-            listing: Listing::Keys,
+            order: Order::List(Listing::Keys),
         }),
         _ => None,
     }
@@ -171,11 +175,13 @@ fn shelf_list_of<'a>(options: &ArgMatches<'a>) -> Option<Command<'a>>
     match (text(options, "db"), text(options, "control")) {
         (Some(db), None) => Some(Command::OnStore {
             db,
-            action: Action::ShelfList,
+            action: Action::List {
+                listing: Listing::Shelves,
+            },
         }),
-        (None, Some(control)) => Some(Command::List {
+        (None, Some(control)) => Some(Command::Send {
             control,
-            listing: Listing::Shelves,
+            order: Order::List(Listing::Shelves),
         }),
         _ => None,
     }
@@ -195,7 +201,10 @@ fn catalog_of<'a>(options: &ArgMatches<'a>) -> Option<Command<'a>>
             db,
             action: Action::Catalog { key },
         }),
-        (None, Some(control), Some(key)) => Some(Command::Catalog { control, key }),
+        (None, Some(control), Some(key)) => Some(Command::Send {
+            control,
+            order: Order::Catalog(key),
+        }),
         _ => None,
     }
 }
@@ -214,7 +223,10 @@ fn registering_command<'a>(
             db,
             action: Action::Register { command },
         }),
-        (None, Some(control)) => Some(Command::Order { control, command }),
+        (None, Some(control)) => Some(Command::Send {
+            control,
+            order: Order::Registry(command),
+        }),
         _ => None,
     }
 }
@@ -391,7 +403,7 @@ fn entrance_of<'a>(options: &ArgMatches<'a>) -> Option<ListenOn>
     }
 }
 
-/// Returns the port if it is given, or None if its text is not the number of one, which the parser refuses.
+/// Returns the port if it is given, or None if its text is no port number, which the parser refuses.
 fn port_of<'a>(options: &ArgMatches<'a>) -> Option<Option<u16>>
     ensures { ReadsNumber (rows_of (found_of options.now)) (codes "port") 65535 result }
 {

@@ -17,6 +17,7 @@ use commands::exit::Exit;
 use commands::refusal::CommandRefusal;
 use engine::write::{write_both, write_bytes};
 use histories::{Hear, Tell};
+use orders::Order;
 use runner::Command;
 use std::alloc::Global;
 use std::io::{self, Write};
@@ -30,8 +31,8 @@ use std::io::{self, Write};
 /// log stands at its name, a line says so before the refusal. The texts of the parser are tested and
 /// not proved.
 ///
-/// What was done to files of stores, with servers and with callers, and nothing else, is in the histories of `stores`,
-/// which `main` makes.
+/// The histories of `stores`, which `main` makes, have what was done to files of stores, with servers and with callers,
+/// what was read of other files, and nothing else.
 pub fn command<'a, I: Hear, O: Tell, E: Tell>(
     stores: &mut SystemStores<'a>,
     words: &[String],
@@ -82,8 +83,8 @@ fn end<E: Tell>(ended: Exit, errors: &mut E) -> u8
     ended.status()
 }
 
-/// Writes a line on `errors` if the store of the command is new, as that of a mistyped name is: if it is served,
-/// because it answers 404 to everybody, and if the command writes to it and somebody sees `errors`.
+/// Writes a line on `errors` if the store of the command is new, as one with a mistyped name is: always if it is
+/// served, because it answers 404 to everybody, and otherwise if the command writes to it and somebody sees `errors`.
 fn tell_new_store<P: Runner, E: Tell>(runner: &P, command: &Command, errors: &mut E)
     ensures { MayWarn (E.contents errors.old) (E.contents errors.new) command.now }
 {
@@ -138,7 +139,10 @@ fn explain<P: Runner, E: Tell>(
             tell_lone_log(runner, to, errors);
         }
         // the server takes a path from another folder than this process
-        Command::Copy { to, .. } if to.starts_with('/') => tell_lone_log(runner, to, errors),
+        Command::Send {
+            order: Order::Copy(to),
+            ..
+        } if to.starts_with('/') => tell_lone_log(runner, to, errors),
         _ => {}
     }
 }

@@ -1,14 +1,16 @@
 //! What runs a command: the files of the system, or any other `Runner`.
 ghost use Rattle.std.specs.Prelude.{◌≡◌, []};
 
+use commands::action::Outside;
 use commands::refusal::CommandRefusal;
+use commands::sources::{Sources, SystemFiles};
 use file_action::host::ActionHost;
 use histories::{Hear, Hearing, Tell, Telling};
 use network::servers::Servers;
 use network::system::SystemServers;
 use runner::file_checks::FileChecks;
 use runner::found::{ClosedFile, OpenedStore};
-use runner::host::{Host, SystemHost};
+use runner::host::{Host, SystemHost, SystemOutside};
 use runner::system::{SystemOlderFiles, SystemStoreFiles};
 use runner::{Command, run};
 use socket::{Callers, SystemEntrances, SystemOperator, SystemPeer};
@@ -47,7 +49,7 @@ pub trait Runner {
 }
 
 /// The system with its files, its servers and its entrances, and with all that was done to the files of stores, over
-/// connections to servers, and with callers.
+/// connections to servers, and with callers, and all that was read of other files.
 #[derive(Drop)]
 pub struct SystemStores<'a> {
     pub rt: &'a HostRuntime,
@@ -59,13 +61,12 @@ pub struct SystemStores<'a> {
     pub older: SystemOlderFiles<'a>,
     /// The `serve` that gets an order.
     pub servers: SystemServers<'a>,
-    /// Where `serve` lets callers in.
-    pub entrances: SystemEntrances<'a>,
+    /// Where `serve` lets callers in, and the files that a publish and an import read.
+    pub outside: SystemOutside<'a>,
 }
 
 impl<'a> SystemStores<'a> {
-    /// Returns the system with its files, to which nothing was done, servers, to which nothing has connected, and
-    /// entrances, at which nothing was done.
+    /// Returns the system, with empty histories of its stores, its servers, its entrances and the files that are read.
     pub fn new(rt: &'a HostRuntime) -> SystemStores<'a>
         ensures files { ⟦<SystemStoreFiles<'a> as StoreFiles<OpenedStore, ClosedFile>>⟧.history result.files ≡ [] }
         ensures targets { ⟦<SystemStoreFiles<'a> as StoreFiles<OpenedStore, ClosedFile>>⟧.history result.targets ≡ [] }
@@ -73,7 +74,8 @@ impl<'a> SystemStores<'a> {
         ensures servers { ⟦<SystemServers<'a> as Servers<Hearing<UnixStream>, Telling<UnixStream>>>⟧.history
             result.servers ≡ [] }
         ensures entrances { ⟦<SystemEntrances<'a> as Callers<SystemPeer, SystemOperator>>⟧.history
-            result.entrances ≡ [] }
+            result.outside.entrances ≡ [] }
+        ensures read { ⟦<SystemFiles<'a> as Sources>⟧.history result.outside.files ≡ [] }
     {
         SystemStores {
             rt,
@@ -81,7 +83,10 @@ impl<'a> SystemStores<'a> {
             targets: SystemStoreFiles::new(rt, PageRoom::Zip),
             older: SystemOlderFiles::new(rt),
             servers: SystemServers::new(rt),
-            entrances: SystemEntrances::new(rt),
+            outside: Outside {
+                entrances: SystemEntrances::new(rt),
+                files: SystemFiles::new(rt),
+            },
         }
     }
 }
@@ -90,9 +95,9 @@ impl<'a> Runner for SystemStores<'a> {
     ghost use Rattle.commands.specs.Connection.{IsAll};
     ghost use Rattle.runner.specs.Command.{Runs};
 
-    /// The command did what `Runs` says, and between these histories of files, servers and callers nothing else was
-    /// done.
-    ghost ran = { λ old new. Runs ⟦<SystemHost<'a> as ActionHost<OpenedStore, SystemEntrances<'a>>>⟧.acts
+    /// The command did what `Runs` says, and between these histories of files, servers, callers and files read nothing
+    /// else was done.
+    ghost ran = { λ old new. Runs ⟦<SystemHost<'a> as ActionHost<OpenedStore, SystemOutside<'a>>>⟧.acts
         ⟦<SystemHost<'a> as Host<OpenedStore, ClosedFile>>⟧.state_of
         ⟦<SystemHost<'a> as Host<OpenedStore, ClosedFile>>⟧.shown
         (record {
@@ -114,11 +119,12 @@ impl<'a> Runner for SystemStores<'a> {
           after = ⟦<SystemOlderFiles<'a> as StoreFiles<ClosedFile, ClosedFile>>⟧.history new.older;
         })
         (λ link passed. IsAll (⟦<Hearing<UnixStream> as Hear>⟧.account link.reader)
+        (⟦<Hearing<UnixStream> as Hear>⟧.reads link.reader)
         (⟦<Telling<UnixStream> as Write>⟧.contents link.writer)
         (⟦<Telling<UnixStream> as Tell>⟧.writes link.writer).failed passed)
         (⟦<SystemServers<'a> as Servers<Hearing<UnixStream>, Telling<UnixStream>>>⟧.history old.servers)
         (⟦<SystemServers<'a> as Servers<Hearing<UnixStream>, Telling<UnixStream>>>⟧.history new.servers)
-        old.entrances new.entrances };
+        old.outside new.outside };
 
     fn is_new(&self, db: &str) -> bool {
         is_new_store(self.rt, db)
@@ -144,7 +150,7 @@ impl<'a> Runner for SystemStores<'a> {
             &mut self.targets,
             &mut self.older,
             &mut self.servers,
-            &mut self.entrances,
+            &mut self.outside,
             command,
             input,
             output,

@@ -1,5 +1,5 @@
 -- A command with `--control`, and the `serve` that gets its line.
-use Rattle.std.proofs.Common.{◌≡◌, ℕ, List, [], Bool, true, Some, Result, Ok, Err, refl, ◌∙◌, sym, ap}
+use Rattle.std.proofs.Common.{◌≡◌, ℕ, List, [], Bool, true, Result, Ok, Err, refl, ◌∙◌, sym, ap}
 use Rattle.std.proofs.Common.{subst, inl, inr, true≢false, false}
 use Rattle.world.specs.Store.{Shown}
 use Rattle.world.specs.World.{World, IsWorld}
@@ -11,7 +11,6 @@ use Rattle.machine.specs.declared.request.Event.{Event}
 use Rattle.machine.specs.declared.request.Event.TheVariants as event
 use Rattle.machine.specs.declared.reply.Reply.{Reply}
 use Rattle.machine.specs.declared.reply.Reply.TheVariants.{Registry}
-use Rattle.control.specs.Asking.{Asks}
 use Rattle.control.specs.Copying.{Making, OfKey, ToPath, GoesThroughSteps}
 use Rattle.control.specs.Hearing.{Heard, Carried, Made, Listed, Pinged, Named, Stop, NoOrder, NoMemory}
 use Rattle.control.specs.Hearing.{GoesAs, IsHeardIn, steps_heard}
@@ -23,6 +22,7 @@ use Rattle.orders.specs.Order.{Commanded, Ordered, IsLineOf, commanded}
 use Rattle.control.specs.declared.health.Health.{Health}
 use Rattle.orders.specs.declared.outcome.Outcome.{Outcome}
 use Rattle.orders.specs.declared.outcome.Outcome.TheVariants as outcome
+use Rattle.control.specs.declared.client.OrderReply.TheVariants as reply
 use Rattle.control.specs.declared.control_reply.ControlReply.{ControlReply}
 use Rattle.control.specs.declared.control_reply.ControlReply.TheVariants as spoken
 use Rattle.orders.specs.declared.command.RegistryCommand.{RegistryCommand}
@@ -30,10 +30,9 @@ use Rattle.orders.specs.declared.command.RegistryCommand.TheVariants.{TeamAdd, G
 use Rattle.orders.specs.declared.command.RegistryCommand.TheVariants.{KeyRevoke, KeysRevoke}
 use Rattle.orders.proofs.OrderLemmas.{one_order}
 use Rattle.commands.specs.Controlled.{EndsAt, EndsAsOnTheStore}
-use Rattle.commands.specs.Order.{ComeToTheSame, unsayable}
-use Rattle.commands.specs.SentOrder.{order_ending}
-use Rattle.commands.specs.declared.refusal.CommandRefusal.{CommandRefusal}
-use Rattle.commands.specs.declared.sent_order.SentOrder.TheVariants as which
+use Rattle.commands.specs.Ending.{ending}
+use Rattle.commands.specs.Order.{ComeToTheSame}
+use Rattle.commands.specs.SentOrder.{Ends, ending_of, quiet}
 
 -- ---- a line that orders a registry command orders nothing else
 
@@ -93,19 +92,19 @@ outcome_in_told (spoken.Health line) = outcome.Bad
 outcome_in_told (spoken.List lines) = outcome.Bad
 
 module _ (idle : Type 0) (meanwhile : Making → Type 0) (old new : Shown) (sent : List ℕ) (order asked : RegistryCommand)
-    (result : Result (Unit {0}) CommandRefusal) (w : World) where
+    (ended : Ends) (w : World) where
   carried : new.is_honest → old.stands w → IsWorld w → ComeToTheSame asked order
       → IsLineOf sent (orders.Registry (commanded asked))
       → (other : RegistryCommand) → IsLineOf sent (orders.Registry (commanded other))
       → (told : Result RegistryReply StoreFault)
-      → result ≡ order_ending which.Registry (unsayable asked) (Ok (outcome_of told))
-      → GoesThroughSteps old new (steps_heard (Carried other told)) → EndsAt new w order result
+      → ended ≡ ending_of (orders.Registry (commanded asked)) (Ok (reply.Outcome (outcome_of told)))
+      → GoesThroughSteps old new (steps_heard (Carried other told)) → EndsAt new w order ended
   carried honest stands is same asks other heard (Ok r) ends through =
       let run = through.runs.at honest w stands in
       let event = same_event sent asked other asks heard in
       let outcome = ap registered_in (run.run.0 ∙ ap (reply_to w) (sym event)) ∙ replied w asked ∙ (same w is).0 in
       inl (
-        ends ∙ ap (λ r. order_ending which.Registry (unsayable asked) (Ok (outcome_of (Ok r)))) outcome,
+        ends ∙ ap (λ r. quiet (ending (Ok r))) outcome,
         subst new.stands (ap (after w) (sym event) ∙ (same w is).1) run.ends,
       )
   carried honest stands is same asks other heard (Err fault) ends through =
@@ -115,12 +114,13 @@ module _ (idle : Type 0) (meanwhile : Making → Type 0) (old new : Shown) (sent
       → IsLineOf sent (orders.Registry (commanded asked))
       → (heard : Heard) → IsHeardIn sent heard
       → (outcome : Outcome) → spoken.Outcome outcome ≡ told_heard heard
-      → result ≡ order_ending which.Registry (unsayable asked) (Ok outcome)
+      → ended ≡ ending_of (orders.Registry (commanded asked)) (Ok (reply.Outcome outcome))
       → GoesAs idle meanwhile old new heard
-      → EndsAt new w order result
+      → EndsAt new w order ended
   heard_so honest stands is same asks (Carried other told) from outcome tells ends through =
       carried honest stands is same asks other from told
-      (ends ∙ ap (λ o. order_ending which.Registry (unsayable asked) (Ok o)) (ap outcome_in_told tells)) through.1
+      (ends ∙ ap (λ o. ending_of (orders.Registry (commanded asked)) (Ok (reply.Outcome o))) (ap outcome_in_told tells))
+      through.1
   heard_so honest stands is same asks (Made (ToPath path told)) from outcome tells ends through =
       absurd (true≢false (alone sent (commanded asked) (orders.Copy path) asks from))
   heard_so honest stands is same asks (Made (OfKey key printed told)) from outcome tells ends through =
@@ -140,14 +140,6 @@ module _ (idle : Type 0) (meanwhile : Making → Type 0) (old new : Shown) (sent
 pub ends_as_on_the_store : (made : Making → Type 0)
     (pinged : Result Health StoreFault → Type 0) (idle : Type 0) (meanwhile : Making → Type 0) (old new : Shown)
     → ((w : World) → old.stands w → IsWorld w) → EndsAsOnTheStore made pinged idle meanwhile old new
-ends_as_on_the_store made pinged idle meanwhile old new sound order result w two honest stands =
-    let asked = two.command.asked in
-    let asks = subst (λ told.
-    Asks two.unread two.unread_new (Some []) (Some two.sent) (orders.Registry (commanded asked)) told) two.heard
-    two.command.asks in
-    let sends : IsLineOf two.sent (orders.Registry (commanded asked)) =
-    subst (λ got. IsLineOf got (orders.Registry (commanded asked))) (sym asks.2) asks.1 in
-    heard_so idle meanwhile old new two.sent order asked result w honest stands (sound w stands) two.command.same
-    sends two.server.heard two.server.from
-    two.told two.server.tells (two.command.ends ∙ ap (order_ending which.Registry (unsayable asked)) two.heard)
-    two.server.through
+ends_as_on_the_store made pinged idle meanwhile old new sound order ended w two honest stands =
+    heard_so idle meanwhile old new two.passed.sent order two.asked ended w honest stands (sound w stands) two.same
+    two.exchanges.0 two.server.heard two.server.from.0 two.told two.server.tells two.ends two.server.through

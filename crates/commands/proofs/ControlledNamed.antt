@@ -1,12 +1,11 @@
 -- `key-revoke --fingerprint` with `--control`, and the `serve` that gets its line.
-use Rattle.std.proofs.Common.{◌≡◌, ℕ, List, [], Some, Result, Ok, Err, refl, ◌∙◌, sym, ap, subst, inl, inr}
+use Rattle.std.proofs.Common.{◌≡◌, ℕ, List, [], Result, Ok, Err, refl, ◌∙◌, ap, subst, inl, inr}
 use Rattle.std.proofs.Common.{Bool, true, false, true≢false}
 use Rattle.keyring.specs.Revoke.{after_revoke, revoked}
 use Rattle.world.specs.Store.{Shown}
 use Rattle.world.specs.World.{World}
 use Rattle.world.specs.declared.registry.RegistryReply.{RegistryReply}
 use Rattle.world.specs.declared.registry.StoreFault.{StoreFault}
-use Rattle.control.specs.Asking.{Asks}
 use Rattle.control.specs.Copying.{Making, OfKey, ToPath, GoesThroughSteps}
 use Rattle.control.specs.Hearing.{Heard, Carried, Made, Listed, Pinged, Named, Stop, NoOrder, NoMemory}
 use Rattle.control.specs.Hearing.{GoesAs, IsHeardIn, ListsBy, told_heard}
@@ -18,13 +17,11 @@ use Rattle.orders.proofs.OrderLemmas.{one_order}
 use Rattle.control.specs.declared.health.Health.{Health}
 use Rattle.orders.specs.declared.command.RegistryCommand.TheVariants.{KeyRevoke}
 use Rattle.orders.specs.declared.outcome.Outcome.{Outcome}
+use Rattle.control.specs.declared.client.OrderReply.TheVariants as reply
 use Rattle.control.specs.declared.control_reply.ControlReply.TheVariants as spoken
 use Rattle.commands.specs.Controlled.{RevokesAt, RevokesAsOnTheStore}
 use Rattle.commands.specs.Ending.{ending}
-use Rattle.commands.specs.SentOrder.{order_ending}
-use Rattle.commands.specs.declared.refusal.CommandRefusal.{CommandRefusal}
-use Rattle.commands.specs.declared.refusal.CommandRefusal.TheVariants.{NoKey}
-use Rattle.commands.specs.declared.sent_order.SentOrder.TheVariants as which
+use Rattle.commands.specs.SentOrder.{Ends, ending_of, quiet}
 use Rattle.commands.proofs.Controlled.{outcome_in_told, registered_in, replied}
 
 -- ---- a line that names a key orders nothing else
@@ -43,21 +40,22 @@ alone sent f o is is_too = ap is_named (one_order sent (orders.RevokeByFingerpri
 
 -- ---- how the command ends
 
-ends_so : (told : Result RegistryReply StoreFault) → order_ending which.Registry NoKey (Ok (outcome_of told)) ≡ ending told
-ends_so (Ok r) = refl
-ends_so (Err fault) = refl
+ends_so : (f : List ℕ) (told : Result RegistryReply StoreFault)
+    → ending_of (orders.RevokeByFingerprint f) (Ok (reply.Outcome (outcome_of told))) ≡ quiet (ending told)
+ends_so f (Ok r) = refl
+ends_so f (Err fault) = refl
 
-module _ (idle : Type 0) (meanwhile : Making → Type 0) (old new : Shown) (f : List ℕ) (result : Result (Unit {0}) CommandRefusal)
+module _ (idle : Type 0) (meanwhile : Making → Type 0) (old new : Shown) (f : List ℕ) (ended : Ends)
     (w : World) where
   named : new.is_honest → old.stands w → (naming : Naming) → Finds old new f naming
-      → GoesThroughSteps old new (named_steps f naming) → result ≡ ending (named_result naming)
-      → RevokesAt new w f result
+      → GoesThroughSteps old new (named_steps f naming) → ended ≡ quiet (ending (named_result naming))
+      → RevokesAt new w f ended
   named honest stands (NamesOne key (Ok r)) finds through ends =
       let run = through.runs.at honest w stands in
       let found = finds honest w stands in
       let outcome = ap registered_in run.run.0 ∙ replied w (KeyRevoke key) in
       inl (
-        ends ∙ ap (λ o. ending (Ok o)) (outcome ∙ ap (revoked w) found),
+        ends ∙ ap (λ o. quiet (ending (Ok o))) (outcome ∙ ap (revoked w) found),
         subst new.stands (ap (after_revoke w) found) run.ends,
       )
   named honest stands (NamesOne key (Err fault)) finds through ends =
@@ -65,7 +63,7 @@ module _ (idle : Type 0) (meanwhile : Making → Type 0) (old new : Shown) (f : 
   named honest stands NamesNone finds through ends =
       let found = finds honest w stands in
       inl (
-        ends ∙ ap (λ o. ending (Ok (revoked w o))) found,
+        ends ∙ ap (λ o. quiet (ending (Ok (revoked w o)))) found,
         subst new.stands (ap (after_revoke w) found) (through.runs.at honest w stands).ends,
       )
   named honest stands (ReadError fault) finds through ends = inr (fault, ends, (through.runs.at honest w stands).ends)
@@ -73,14 +71,15 @@ module _ (idle : Type 0) (meanwhile : Making → Type 0) (old new : Shown) (f : 
   heard_so : (sent : List ℕ) → new.is_honest → old.stands w → IsLineOf sent (orders.RevokeByFingerprint f)
       → (heard : Heard) → IsHeardIn sent heard
       → (outcome : Outcome) → spoken.Outcome outcome ≡ told_heard heard
-      → result ≡ order_ending which.Registry NoKey (Ok outcome)
-      → GoesAs idle meanwhile old new heard → ListsBy old new heard → RevokesAt new w f result
+      → ended ≡ ending_of (orders.RevokeByFingerprint f) (Ok (reply.Outcome outcome))
+      → GoesAs idle meanwhile old new heard → ListsBy old new heard → RevokesAt new w f ended
   heard_so sent honest stands asks (Named g naming) from outcome tells ends through finds =
       let same = ap named_in (one_order sent (orders.RevokeByFingerprint g) (orders.RevokeByFingerprint f) from asks) in
       let both = subst (λ (x : List ℕ). Finds old new x naming × GoesThroughSteps old new (named_steps x naming)) same
       (finds, through.1) in
       named honest stands naming both.0 both.1
-      (ends ∙ ap (λ o. order_ending which.Registry NoKey (Ok o)) (ap outcome_in_told tells) ∙ ends_so (named_result naming))
+      (ends ∙ ap (λ o. ending_of (orders.RevokeByFingerprint f) (Ok (reply.Outcome o))) (ap outcome_in_told tells)
+      ∙ ends_so f (named_result naming))
   heard_so sent honest stands asks (Carried order told) from outcome tells ends through lists =
       absurd (true≢false (alone sent f (orders.Registry (commanded order)) asks from))
   heard_so sent honest stands asks (Made (ToPath path told)) from outcome tells ends through lists =
@@ -100,11 +99,6 @@ module _ (idle : Type 0) (meanwhile : Making → Type 0) (old new : Shown) (f : 
 pub revokes_as_on_the_store : (made : Making → Type 0)
     (pinged : Result Health StoreFault → Type 0) (idle : Type 0) (meanwhile : Making → Type 0) (old new : Shown)
     → RevokesAsOnTheStore made pinged idle meanwhile old new
-revokes_as_on_the_store made pinged idle meanwhile old new f result w two honest stands =
-    let asks = subst (λ told. Asks two.unread two.unread_new (Some []) (Some two.sent)
-    (orders.RevokeByFingerprint f) told)
-    two.heard two.command.asks in
-    let sends : IsLineOf two.sent (orders.RevokeByFingerprint f) =
-    subst (λ got. IsLineOf got (orders.RevokeByFingerprint f)) (sym asks.2) asks.1 in
-    heard_so idle meanwhile old new f result w two.sent honest stands sends two.server.heard two.server.from two.told
-    two.server.tells (two.command.ends ∙ ap (order_ending which.Registry NoKey) two.heard) two.server.through two.server.lists
+revokes_as_on_the_store made pinged idle meanwhile old new f ended w two honest stands =
+    heard_so idle meanwhile old new f ended w two.passed.sent honest stands two.exchanges.0 two.server.heard
+    two.server.from.0 two.told two.server.tells two.ends two.server.through two.server.lists

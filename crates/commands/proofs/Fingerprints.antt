@@ -1,5 +1,5 @@
 -- How a fingerprint or a SHA-256 that no line can carry ends in each world.
-use Rattle.std.proofs.Common.{◌≡◌, ℕ, List, [], ◌∷◌, Bool, true, false, Option, Result, Ok, Err, refl, ◌∙◌, sym, ap}
+use Rattle.std.proofs.Common.{◌≡◌, ℕ, List, [], ◌∷◌, Bool, true, false, Ok, Err, refl, ◌∙◌, sym, ap}
 use Rattle.std.proofs.Common.{subst, arith}
 use Rattle.std.specs.Prelude.{◌||◌, bytes_eq, codes, cond, filter}
 use Rattle.std.specs.Cmp.Lexicographic.{bytes_decides}
@@ -10,17 +10,14 @@ use Rattle.keyring.proofs.FingerprintLemmas.{fingerprint_ascii, fingerprint_few,
 use Rattle.keyring.proofs.FingerprintLemmas.{hex_digest_ascii, hex_digest_few, hex_digest_word}
 use Rattle.world.specs.Lines.{in_order}
 use Rattle.world.specs.World.{World}
-use Rattle.control.specs.Asking.{Asks}
-use Rattle.control.specs.declared.client.SendError.{SendError}
 use Rattle.orders.specs.Order as orders
+use Rattle.orders.specs.declared.command.RegistryCommand.{RegistryCommand}
+use Rattle.orders.specs.declared.order.Order.{Order}
+use Rattle.orders.specs.declared.order.Order.TheVariants as order
 use Rattle.orders.specs.Order.{HasLine, HasNoLine, IsLineOf}
-use Rattle.orders.specs.declared.outcome.Outcome.{Outcome}
 use Rattle.commands.specs.Ending.{ending}
-use Rattle.commands.specs.Order.{RevokesOver}
-use Rattle.commands.specs.SentOrder.{order_ending}
-use Rattle.commands.specs.declared.refusal.CommandRefusal.{CommandRefusal}
+use Rattle.commands.specs.Order.{IsAlike}
 use Rattle.commands.specs.declared.refusal.CommandRefusal.TheVariants.{NoKey}
-use Rattle.commands.specs.declared.sent_order.SentOrder.TheVariants as which
 use Rattle.commands.proofs.Sayable.{Fits, carried, two_carried, word_fits}
 
 -- a word of at most 64 bytes of ASCII has a line
@@ -65,18 +62,14 @@ module _ (f : List ℕ) (unsaid : HasNoLine (orders.RevokeByFingerprint f)) wher
   pub none_revoked : (w : World) → Err NoKey ≡ ending (Ok (revoked_with w f))
   none_revoked w = ap (λ ks. ending (Ok (revoked w (only ks)))) (sym (none_of (in_order (keys_in w))))
 
--- a command that sends the line of its fingerprint, and ends by the result, does as `RevokesOver` says
-pub revokes_over : (unread unread_new written written_new : Option (List ℕ)) (f : List ℕ)
-    (told : Result Outcome SendError)
-    (result : Result (Unit {0}) CommandRefusal)
-    → Asks unread unread_new written written_new (orders.RevokeByFingerprint f) told
-    → result ≡ order_ending which.Registry NoKey told
-    → RevokesOver unread unread_new written written_new f result
-revokes_over unread unread_new written written_new f told result asks ends = record {
-  told = told;
-  asks = asks;
-  ends = ends;
-  unsent = λ is w.
-      let unsaid = (subst (Asks unread unread_new written written_new (orders.RevokeByFingerprint f)) is asks).0 in
-      ends ∙ ap (order_ending which.Registry NoKey) is ∙ none_revoked f unsaid w;
-}
+-- ---- what is sent for an order that is no registry command
+
+-- it is one like itself
+pub other_alike : (o : Order) → ((command : RegistryCommand) → ¬ (o ≡ order.Registry command)) → IsAlike o o
+other_alike (order.Registry command) other = absurd (other command refl)
+other_alike (order.RevokeByFingerprint f) other = (refl, none_revoked f.now)
+other_alike (order.Copy to) other = refl
+other_alike (order.Catalog key) other = refl
+other_alike (order.List listing) other = refl
+other_alike order.Ping other = refl
+other_alike order.Stop other = refl

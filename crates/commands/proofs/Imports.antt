@@ -25,11 +25,13 @@ use Rattle.world.specs.Store.{Shown, Does}
 use Rattle.world.specs.declared.registry.StoreFault.{StoreFault}
 use Rattle.world.proofs.Causes.{grown_more, grown_before}
 use Rattle.commands.specs.Import as spec
-use Rattle.commands.specs.Import.{DoneRow, GoesThrough, Publishes, DoesRow, Imports, Answers, HasNoFile, Unfetched}
+use Rattle.commands.specs.Sources.{Adds, FileDone}
+use Rattle.commands.specs.Import.{Done, DoneRow, GoesThrough, Publishes, DoesRow, Imports, Answers, HasNoFile, Unfetched}
 use Rattle.commands.specs.ImportFiles.{IsBodyOf}
 use Rattle.commands.specs.ImportList.{HasRead, IsAt, Line, fields_of_line, header}
 use Rattle.commands.specs.Printed.{IsFront, PrintsFront}
 use Rattle.commands.specs.Publish.{answer_of}
+use Rattle.commands.proofs.SourceLemmas.{adds_so, adds_none, adds_both}
 use Rattle.commands.specs.declared.import.Closing.{Closing}
 use Rattle.commands.specs.declared.import.Ending.{Ending}
 use Rattle.commands.specs.declared.import_line.RowOutcome.TheVariants as outcome
@@ -78,23 +80,38 @@ module _ (old new : Shown) (request : Request) where
     device = λ met. elim met [ inl e ↦ does.cause.device (cc e) | inr never ↦ absurd never ];
   }
 
-module _ (files : List ℕ → Option (Option (List ℕ))) (key : List ℕ) where
+module _ (key : List ℕ) where
+  one_row : (l : Line) (d : Done) (deeds : List FileDone) → spec.IsDone key l d deeds
+      → spec.AreDone key (record { line = l; done = d } ∷ []) deeds
+  one_row l d deeds is = (deeds, [], sym (append-nil deeds), is, refl)
+
   -- a row whose files were read is a publish of them
-  pub row_published : (old new : Shown) (l : Line) (body : Body) (answer : Fixed) → IsBodyOf files l (Ok body)
-      → Publishes old new (spec.request_of key l body) answer → DoesRow old new files key l (outcome.Answered answer)
-  row_published old new l body answer had is = record {
-    done = Answers (spec.request_of key l body) is.told;
-    through = record { done = ((body, had, refl), tt); runs = is.runs; no_fewer = is.no_fewer; device = is.device };
-    is = ap outcome.Answered is.is;
-  }
+  pub row_published : (old new : Shown) (before after : List FileDone) (l : Line) (body : Body) (answer : Fixed)
+      → Adds before after (IsBodyOf l (Ok body)) → Publishes old new (spec.request_of key l body) answer
+      → DoesRow old new before after key l (outcome.Answered answer)
+  row_published old new before after l body answer had is =
+      let done = Answers (spec.request_of key l body) is.told in
+      record {
+        done = done;
+        through = record {
+          done = adds_so (IsBodyOf l (Ok body)) (spec.AreDone key (record { line = l; done = done } ∷ [])) before after
+              (λ deeds so. one_row l done deeds (body, so, refl)) had;
+          runs = is.runs;
+          no_fewer = is.no_fewer;
+          device = is.device;
+        };
+        is = ap outcome.Answered is.is;
+      }
 
   -- a row that was not asked of the machine leaves the store as it was
-  pub row_without_file : (old : Shown) (l : Line) → IsBodyOf files l (Err source.NoFile)
-      → DoesRow old old files key l outcome.NoFile
-  row_without_file old l none = record {
+  pub row_without_file : (old : Shown) (before after : List FileDone) (l : Line)
+      → Adds before after (IsBodyOf l (Err source.NoFile)) → DoesRow old old before after key l outcome.NoFile
+  row_without_file old before after l none = record {
     done = HasNoFile;
     through = record {
-      done = (none, tt);
+      done = adds_so (IsBodyOf l (Err source.NoFile))
+          (spec.AreDone key (record { line = l; done = HasNoFile } ∷ [])) before after
+          (λ deeds so. one_row l HasNoFile deeds so) none;
       runs = runs_begun old;
       no_fewer = omega arith;
       device = λ never.
@@ -103,17 +120,26 @@ module _ (files : List ℕ → Option (Option (List ℕ))) (key : List ℕ) wher
     is = refl;
   }
 
-  pub row_unfetched : (old : Shown) (l : Line) → DoesRow old old files key l (outcome.Answered Unavailable)
-  row_unfetched old l = record {
+  pub row_unfetched : (old : Shown) (before after : List FileDone) (l : Line)
+      → Adds before after (IsBodyOf l (Err source.Memory))
+      → DoesRow old old before after key l (outcome.Answered Unavailable)
+  row_unfetched old before after l none = record {
     done = Unfetched;
-    through = record { done = (tt, tt); runs = runs_begun old; no_fewer = omega arith; device = λ never. absurd never };
+    through = record {
+      done = adds_so (IsBodyOf l (Err source.Memory))
+          (spec.AreDone key (record { line = l; done = Unfetched } ∷ [])) before after
+          (λ deeds so. one_row l Unfetched deeds so) none;
+      runs = runs_begun old;
+      no_fewer = omega arith;
+      device = λ never. absurd never;
+    };
     is = refl;
   }
 
   -- an unchanged store goes through no rows
-  pub nothing_done : (old : Shown) → GoesThrough old old files key []
-  nothing_done old = record {
-    done = tt;
+  pub nothing_done : (old : Shown) (before : List FileDone) → GoesThrough old old before before key []
+  nothing_done old before = record {
+    done = adds_none (spec.AreDone key []) before refl;
     runs = runs_begun old;
     no_fewer = omega arith;
     device = λ never. absurd never;
@@ -121,16 +147,24 @@ module _ (files : List ℕ → Option (Option (List ℕ))) (key : List ℕ) wher
 
   -- ---- one more row
 
-  done_more : (done_rows : List DoneRow) (t : DoneRow) → spec.AreDone files key done_rows
-      → spec.IsDone files key t.line t.done → spec.AreDone files key (done_rows ++ t ∷ [])
-  done_more [] t done last = (last, tt)
-  done_more (u ∷ done_rows) t done last = (done.0, done_more done_rows t done.1 last)
+  done_more : (done_rows : List DoneRow) (t : DoneRow) (ds es : List FileDone) → spec.AreDone key done_rows ds
+      → spec.AreDone key (t ∷ []) es → spec.AreDone key (done_rows ++ t ∷ []) (ds ++ es)
+  done_more [] t ds es none last = subst (λ d. spec.AreDone key (t ∷ []) (d ++ es)) (sym none) last
+  done_more (u ∷ done_rows) t ds es (first, rest, same, is, more) last = (
+    first,
+    rest ++ es,
+    ap (λ d. d ++ es) same ∙ append_assoc first rest es,
+    is,
+    done_more done_rows t rest es more last,
+  )
 
   -- a store that goes through rows and then through one more goes through all of them
-  pub through_more : (a b c : Shown) (done_rows : List DoneRow) (t : DoneRow) → GoesThrough a b files key done_rows
-      → GoesThrough b c files key (t ∷ []) → GoesThrough a c files key (done_rows ++ t ∷ [])
-  through_more a b c done_rows t far next = record {
-    done = done_more done_rows t far.done next.done.0;
+  pub through_more : (a b c : Shown) (before mid after : List FileDone) (done_rows : List DoneRow) (t : DoneRow)
+      → GoesThrough a b before mid key done_rows
+      → GoesThrough b c mid after key (t ∷ []) → GoesThrough a c before after key (done_rows ++ t ∷ [])
+  through_more a b c before mid after done_rows t far next = record {
+    done = adds_both (spec.AreDone key done_rows) (spec.AreDone key (t ∷ []))
+        (spec.AreDone key (done_rows ++ t ∷ [])) before mid after (done_more done_rows t) far.done next.done;
     runs = subst (λ es. Runs a c es (spec.answers (done_rows ++ t ∷ []))) (sym (events_more done_rows t))
         (subst (λ told. Runs a c (spec.events done_rows ++ spec.events (t ∷ [])) told) (sym (answers_more done_rows t))
         (runs_joined a b c (spec.events done_rows) (spec.events (t ∷ [])) (spec.answers done_rows)
@@ -144,11 +178,18 @@ module _ (files : List ℕ → Option (Option (List ℕ))) (key : List ℕ) wher
         ];
   }
 
+  none_more : (done_rows : List DoneRow) (ds es : List FileDone) → spec.AreDone key done_rows ds → es ≡ []
+      → spec.AreDone key done_rows (ds ++ es)
+  none_more done_rows ds es are none =
+      subst (spec.AreDone key done_rows) (sym (ap (λ e. ds ++ e) none ∙ append-nil ds)) are
+
   -- a store that goes through rows and then through none goes through the rows
-  pub through_idle : (a b c : Shown) (done_rows : List DoneRow) → GoesThrough a b files key done_rows
-      → GoesThrough b c files key [] → GoesThrough a c files key done_rows
-  through_idle a b c done_rows far idle = record {
-    done = far.done;
+  pub through_idle : (a b c : Shown) (before mid after : List FileDone) (done_rows : List DoneRow)
+      → GoesThrough a b before mid key done_rows
+      → GoesThrough b c mid after key [] → GoesThrough a c before after key done_rows
+  through_idle a b c before mid after done_rows far idle = record {
+    done = adds_both (spec.AreDone key done_rows) (spec.AreDone key []) (spec.AreDone key done_rows) before mid after
+        (none_more done_rows) far.done idle.done;
     runs = subst (λ es. Runs a c es (spec.answers done_rows)) (append-nil (spec.events done_rows))
         (subst (λ xs. Runs a c (spec.events done_rows ++ []) xs) (append-nil (spec.answers done_rows))
         (runs_joined a b c (spec.events done_rows) [] (spec.answers done_rows) [] far.runs idle.runs));
@@ -158,12 +199,13 @@ module _ (files : List ℕ → Option (Option (List ℕ))) (key : List ℕ) wher
 
   -- ---- how an import ends
 
-  module _ (old new : Shown) (list w0 w1 w2 : Option (List ℕ)) (done_rows : List DoneRow) where
+  module _ (old new : Shown) (before after : List FileDone) (list w0 w1 w2 : Option (List ℕ))
+      (done_rows : List DoneRow) where
     -- an import that did these rows and printed the line that ends it does as `Imports` says
     pub closed : (n : ℕ) (why : Closing) (accepted : Bool) (result : Result Ending Io) → spec.AreFirst list done_rows
-        → GoesThrough old new files key done_rows → spec.IsOver list done_rows n why
+        → GoesThrough old new before after key done_rows → spec.IsOver list done_rows n why
         → accepted ≡ list_all spec.is_accepted done_rows → Appends w0 w1 (spec.lines_from 1 done_rows)
-        → spec.Closes n why accepted w1 w2 result → Imports old new files key list w0 w2 result
+        → spec.Closes n why accepted w1 w2 result → Imports old new before after key list w0 w2 result
     closed n why accepted (Ok e) front far over all printed closes = record {
       done_rows = done_rows;
       first = front;
@@ -178,14 +220,15 @@ module _ (files : List ℕ → Option (Option (List ℕ))) (key : List ℕ) wher
     }
 
     -- an import whose output broke off in the line of a row does as `Imports` says
-    pub broken_off : (mid : Shown) (n : ℕ) (t : DoneRow) (e : Io) → spec.AreFirst list (done_rows ++ t ∷ [])
-        → GoesThrough old mid files key done_rows → GoesThrough mid new files key (t ∷ [])
+    pub broken_off : (mid : Shown) (read : List FileDone) (n : ℕ) (t : DoneRow) (e : Io)
+        → spec.AreFirst list (done_rows ++ t ∷ [])
+        → GoesThrough old mid before read key done_rows → GoesThrough mid new read after key (t ∷ [])
         → Appends w0 w1 (spec.lines_from 1 done_rows) → n ≡ length done_rows + 1 → e ≡ io.Write
-        → PrintsFront w1 w2 (spec.done_line n t) → Imports old new files key list w0 w2 (Err e)
-    broken_off mid n t e first far next printed count is front = record {
+        → PrintsFront w1 w2 (spec.done_line n t) → Imports old new before after key list w0 w2 (Err e)
+    broken_off mid read n t e first far next printed count is front = record {
       done_rows = done_rows ++ t ∷ [];
       first = first;
-      through = through_more old mid new done_rows t far next;
+      through = through_more old mid new before read after done_rows t far next;
       ends = (
         is,
         inl (

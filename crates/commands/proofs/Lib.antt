@@ -14,3 +14,7 @@ mod Fingerprints
 mod Connections
 mod NewKeys
 mod Served
+mod FrontLemmas
+mod KnownFiles
+mod ListLemmas
+mod SourceLemmas

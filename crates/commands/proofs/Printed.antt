@@ -1,5 +1,5 @@
 -- A text that was printed after another, or of which only a beginning was printed.
-use Rattle.std.proofs.Common.{◌++◌, List, ℕ, Option, [], Ok, Err, Result, refl, sym, ap, ◌∙◌, append_assoc}
+use Rattle.std.proofs.Common.{◌++◌, List, ℕ, Option, Ok, Err, Result, sym, ap, ◌∙◌, append_assoc}
 use Rattle.std.proofs.KnownBytes.{Appends-trans}
 use Rattle.std.specs.Io.KnownBytes.{Appends}
 use Rattle.engine.specs.Written.{WritesBeginning}

@@ -36,19 +36,19 @@ use Rattle.world.specs.Forms.{path_of}
 use Rattle.world.specs.World.{World, gomod_limit, zip_limit}
 use Rattle.world.specs.declared.registry.StoreFault.TheVariants.{Memory}
 use Rattle.commands.specs.Import as spec
-use Rattle.commands.specs.Import.{AreDone, Done, IsDone, DoneRow, Answers, HasNoFile, Unfetched, answers, answers_of}
+use Rattle.commands.specs.Import.{Done, DoneRow, Answers, HasNoFile, Unfetched, answers, answers_of}
 use Rattle.commands.specs.Import.{events, events_of, outcome_of}
-use Rattle.commands.specs.ImportFiles.{IsBodyOf, IsReadable}
+use Rattle.commands.specs.ImportFiles.{IsReadable}
 use Rattle.commands.specs.ImportLine.{accepts_outcome}
 use Rattle.commands.specs.ImportList.{Line, Meets, fields_of_line}
 use Rattle.commands.specs.Publish.{accepts, answer_of, asked_at, given_time}
-use Rattle.commands.specs.Repetition.{AreRepeats, IsKnown, RepeatedImportChangesNothing}
-use Rattle.commands.specs.Sources.{IsRead}
+use Rattle.commands.specs.Repetition.{AreRepeats, RepeatedImportChangesNothing}
 use Rattle.commands.specs.declared.import.Closing.{Closing}
 use Rattle.commands.specs.declared.import.Closing.TheVariants as closing
 use Rattle.commands.specs.declared.import.Ending.TheVariants.{AllIn, SomeOut}
 use Rattle.commands.specs.declared.import_line.RowOutcome.TheVariants as outcome
 use Rattle.commands.specs.declared.sources.SourceFault.TheVariants as source
+use Rattle.commands.proofs.KnownFiles.{AreDone, IsBodyOf, IsDone, IsRead, all_told}
 
 -- ---- a list is read in one way
 
@@ -160,7 +160,7 @@ asked_put key (Some path) None time body w d is = absurd (no_decision d is)
 asked_put key None (Some version) time body w d is = absurd (no_decision d is)
 asked_put key None None time body w d is = absurd (no_decision d is)
 
-module _ (files : List ℕ → Option (Option (List ℕ))) where
+module _ (files : List ℕ → Option (List ℕ)) where
   -- the row asks this publish with each key
   record Asks (l : Line) (p : Publish) : Type 0 where
     body : Body
@@ -238,104 +238,101 @@ module _ (files : List ℕ → Option (Option (List ℕ))) where
 
   -- ---- the rows again
 
-  read_once : (most : ℕ) (known : Option (Option (List ℕ))) (xs ys : List ℕ) → (known ≡ None → ⊥)
+  read_once : (most : ℕ) (known : Option (List ℕ)) (xs ys : List ℕ)
       → IsRead most known (Ok xs) → IsRead most known (Ok ys) → xs ≡ ys
-  read_once most None xs ys known a b = absurd (known refl)
-  read_once most (Some None) xs ys known a b = absurd a
-  read_once most (Some (Some all)) xs ys known a b = a ∙ sym b
+  read_once most None xs ys a b = absurd a
+  read_once most (Some all) xs ys a b = a ∙ sym b
 
-  read_or_none : (most : ℕ) (known : Option (Option (List ℕ))) (xs : List ℕ) → (known ≡ None → ⊥)
+  read_or_none : (most : ℕ) (known : Option (List ℕ)) (xs : List ℕ)
       → IsRead most known (Ok xs) → IsRead most known (Err source.NoFile) → ⊥
-  read_or_none most None xs known a b = known refl
-  read_or_none most (Some None) xs known a b = a
-  read_or_none most (Some (Some all)) xs known a b = b
+  read_or_none most None xs a b = a
+  read_or_none most (Some all) xs a b = b
 
   abbrev body : List ℕ → List ℕ → Body
   body gomod zip = record { gomod = gomod; zip = zip }
 
-  module _ (known : IsKnown files) where
-    same_body : (l : Line) (b c : Body) → IsReadable l → IsBodyOf files l (Ok b) → IsBodyOf files l (Ok c) → b ≡ c
-    same_body l b c readable had have =
-        let (gomod, zip) = had readable in
-        let (gomod_again, zip_again) = have readable in
-        ap (λ g. body g b.zip) (read_once gomod_limit (files l.gomod) b.gomod c.gomod (known l.gomod) gomod gomod_again)
-        ∙ ap (body c.gomod) (read_once zip_limit (files l.zip) b.zip c.zip (known l.zip) zip zip_again)
+  same_body : (l : Line) (b c : Body) → IsReadable l → IsBodyOf files l (Ok b) → IsBodyOf files l (Ok c) → b ≡ c
+  same_body l b c readable had have =
+      let (gomod, zip) = had readable in
+      let (gomod_again, zip_again) = have readable in
+      ap (λ g. body g b.zip) (read_once gomod_limit (files l.gomod) b.gomod c.gomod gomod gomod_again)
+      ∙ ap (body c.gomod) (read_once zip_limit (files l.zip) b.zip c.zip zip zip_again)
 
-    has_files : (l : Line) (p : Publish) → Asks l p → IsBodyOf files l (Err source.NoFile) → ⊥
-    has_files l p asks (readable, none) =
-        let (gomod, zip) = asks.had asks.readable in
-        elim none [
-          | inl g ↦ read_or_none gomod_limit (files l.gomod) asks.body.gomod (known l.gomod) gomod g
-          | inr z ↦ read_or_none zip_limit (files l.zip) asks.body.zip (known l.zip) zip z
-        ]
+  has_files : (l : Line) (p : Publish) → Asks l p → IsBodyOf files l (Err source.NoFile) → ⊥
+  has_files l p asks (readable, none) =
+      let (gomod, zip) = asks.had asks.readable in
+      elim none [
+        | inl g ↦ read_or_none gomod_limit (files l.gomod) asks.body.gomod gomod g
+        | inr z ↦ read_or_none zip_limit (files l.zip) asks.body.zip zip z
+      ]
 
-    -- a row that is done again with another key asks the same publish
-    asked_again : (key : List ℕ) (l : Line) (p : Publish) (request : Request) (answer : Answer) → Asks l p
-        → IsDone files key l (Answers request answer) → request ≡ Put key p
-    asked_again key l p request answer asks (b, had, is) =
-        is ∙ ap (spec.request_of key l) (same_body l b asks.body asks.readable had asks.had) ∙ asks.asks key
+  -- a row that is done again with another key asks the same publish
+  asked_again : (key : List ℕ) (l : Line) (p : Publish) (request : Request) (answer : Answer) → Asks l p
+      → IsDone files key l (Answers request answer) → request ≡ Put key p
+  asked_again key l p request answer asks (b, had, is) =
+      is ∙ ap (spec.request_of key l) (same_body l b asks.body asks.readable had asks.had) ∙ asks.asks key
 
-    -- the answer of a row, or a fault if the machine was not asked
-    abbrev answer_in : Done → Answer
-    answer_in (Answers request answer) = answer
-    answer_in HasNoFile = Failed Memory
-    answer_in Unfetched = Failed Memory
+  -- the answer of a row, or a fault if the machine was not asked
+  abbrev answer_in : Done → Answer
+  answer_in (Answers request answer) = answer
+  answer_in HasNoFile = Failed Memory
+  answer_in Unfetched = Failed Memory
 
-    -- an answer for each publish, which is a fault for those that the machine was not asked
-    abbrev padded : List Publish → List DoneRow → List Answer
-    padded [] ts = []
-    padded (p ∷ ps) [] = Failed Memory ∷ padded ps []
-    padded (p ∷ ps) (t ∷ ts) = answer_in t.done ∷ padded ps ts
+  -- an answer for each publish, which is a fault for those that the machine was not asked
+  abbrev padded : List Publish → List DoneRow → List Answer
+  padded [] ts = []
+  padded (p ∷ ps) [] = Failed Memory ∷ padded ps []
+  padded (p ∷ ps) (t ∷ ts) = answer_in t.done ∷ padded ps ts
 
-    -- a run over a row that is done again is a run over its publish
-    one_again : (key : List ℕ) (w new : World) (l : Line) (d : Done) (p : Publish) (es fs : List Event)
-        (told more : List Answer) → Asks l p → IsDone files key l d
-        → ((v : World) → Run v es told new → Run v fs more new) → Run w (events_of d ++ es) (answers_of d ++ told) new
-        → Run w (Requested (Put key p) ∷ fs) (answer_in d ∷ more) new
-    one_again key w new l (Answers request (Replied r)) p es fs told more asks done go run =
-        let same = asked_again key l p request (Replied r) asks done in
-        let whole : Run w (Requested (Put key p) ∷ es) (Replied r ∷ told) new =
-        subst (λ (a : Request). Run w (Requested a ∷ es) (Replied r ∷ told) new) same run in
-        (whole.0, go (after w (Requested (Put key p))) whole.1)
-    one_again key w new l (Answers request (Failed fault)) p es fs told more asks done go run = go w run
-    one_again key w new l HasNoFile p es fs told more asks done go run = absurd (has_files l p asks done)
-    one_again key w new l Unfetched p es fs told more asks done go run = go w run
+  -- a run over a row that is done again is a run over its publish
+  one_again : (key : List ℕ) (w new : World) (l : Line) (d : Done) (p : Publish) (es fs : List Event)
+      (told more : List Answer) → Asks l p → IsDone files key l d
+      → ((v : World) → Run v es told new → Run v fs more new) → Run w (events_of d ++ es) (answers_of d ++ told) new
+      → Run w (Requested (Put key p) ∷ fs) (answer_in d ∷ more) new
+  one_again key w new l (Answers request (Replied r)) p es fs told more asks done go run =
+      let same = asked_again key l p request (Replied r) asks done in
+      let whole : Run w (Requested (Put key p) ∷ es) (Replied r ∷ told) new =
+      subst (λ (a : Request). Run w (Requested a ∷ es) (Replied r ∷ told) new) same run in
+      (whole.0, go (after w (Requested (Put key p))) whole.1)
+  one_again key w new l (Answers request (Failed fault)) p es fs told more asks done go run = go w run
+  one_again key w new l HasNoFile p es fs told more asks done go run = absurd (has_files l p asks done)
+  one_again key w new l Unfetched p es fs told more asks done go run = go w run
 
-    -- a run over rows that are done again is a run over their publishes
-    all_again : (key : List ℕ) (w new : World) (us ts : List DoneRow) (ps : List Publish) → AskEach us ps
-        → AreFirstOf ts us → AreDone files key ts
-        → Run w (events ts) (answers ts) new → Run w (puts key ps) (padded ps ts) new
-    all_again key w new [] [] [] asks first done run = run
-    all_again key w new [] [] (p ∷ ps) asks first done run = absurd asks
-    all_again key w new [] (t ∷ ts) ps asks first done run = absurd first
-    all_again key w new (u ∷ us) ts [] asks first done run = absurd asks
-    all_again key w new (u ∷ us) [] (p ∷ ps) asks first done run = all_again key w new us [] ps asks.1 tt tt run
-    all_again key w new (u ∷ us) (t ∷ ts) (p ∷ ps) asks first done run =
-        one_again key w new t.line t.done p (events ts) (puts key ps) (answers ts) (padded ps ts)
-        (subst (λ l. Asks l p) (sym first.0) asks.0) done.0
-        (λ v so. all_again key v new us ts ps asks.1 first.1 done.1 so) run
+  -- a run over rows that are done again is a run over their publishes
+  all_again : (key : List ℕ) (w new : World) (us ts : List DoneRow) (ps : List Publish) → AskEach us ps
+      → AreFirstOf ts us → AreDone files key ts
+      → Run w (events ts) (answers ts) new → Run w (puts key ps) (padded ps ts) new
+  all_again key w new [] [] [] asks first done run = run
+  all_again key w new [] [] (p ∷ ps) asks first done run = absurd asks
+  all_again key w new [] (t ∷ ts) ps asks first done run = absurd first
+  all_again key w new (u ∷ us) ts [] asks first done run = absurd asks
+  all_again key w new (u ∷ us) [] (p ∷ ps) asks first done run = all_again key w new us [] ps asks.1 tt tt run
+  all_again key w new (u ∷ us) (t ∷ ts) (p ∷ ps) asks first done run =
+      one_again key w new t.line t.done p (events ts) (puts key ps) (answers ts) (padded ps ts)
+      (subst (λ l. Asks l p) (sym first.0) asks.0) done.0
+      (λ v so. all_again key v new us ts ps asks.1 first.1 done.1 so) run
 
-    -- a row that is done again and got `Same` or a fault is answered `200 already published` or 503
-    repeat : (key : List ℕ) (l : Line) (d : Done) (p : Publish) → Asks l p → IsDone files key l d
-        → (answer_in d ≡ Replied (reply.Decided decision.Same)) ⊎ IsFailed (answer_in d)
-        → (outcome_of d ≡ outcome.Answered fixed.AlreadyPublished) ⊎ (outcome_of d ≡ outcome.Answered fixed.Unavailable)
-    repeat key l (Answers request (Replied r)) p asks done (inl same) =
-        inl (ap (λ a. outcome.Answered (spec.fixed_answer a)) same)
-    repeat key l (Answers request (Replied r)) p asks done (inr fails) = absurd fails
-    repeat key l (Answers request (Failed fault)) p asks done got = inr refl
-    repeat key l HasNoFile p asks done got = absurd (has_files l p asks done)
-    repeat key l Unfetched p asks done got = inr refl
+  -- a row that is done again and got `Same` or a fault is answered `200 already published` or 503
+  repeat : (key : List ℕ) (l : Line) (d : Done) (p : Publish) → Asks l p → IsDone files key l d
+      → (answer_in d ≡ Replied (reply.Decided decision.Same)) ⊎ IsFailed (answer_in d)
+      → (outcome_of d ≡ outcome.Answered fixed.AlreadyPublished) ⊎ (outcome_of d ≡ outcome.Answered fixed.Unavailable)
+  repeat key l (Answers request (Replied r)) p asks done (inl same) =
+      inl (ap (λ a. outcome.Answered (spec.fixed_answer a)) same)
+  repeat key l (Answers request (Replied r)) p asks done (inr fails) = absurd fails
+  repeat key l (Answers request (Failed fault)) p asks done got = inr refl
+  repeat key l HasNoFile p asks done got = absurd (has_files l p asks done)
+  repeat key l Unfetched p asks done got = inr refl
 
-    repeats : (key : List ℕ) (us ts : List DoneRow) (ps : List Publish) → AskEach us ps → AreFirstOf ts us
-        → AreDone files key ts → AllSameOrFailed (padded ps ts)
-        → AreRepeats ts
-    repeats key us [] ps asks first done same = tt
-    repeats key [] (t ∷ ts) ps asks first done same = absurd first
-    repeats key (u ∷ us) (t ∷ ts) [] asks first done same = absurd asks
-    repeats key (u ∷ us) (t ∷ ts) (p ∷ ps) asks first done same = (
-      repeat key t.line t.done p (subst (λ l. Asks l p) (sym first.0) asks.0) done.0 same.0,
-      repeats key us ts ps asks.1 first.1 done.1 same.1,
-    )
+  repeats : (key : List ℕ) (us ts : List DoneRow) (ps : List Publish) → AskEach us ps → AreFirstOf ts us
+      → AreDone files key ts → AllSameOrFailed (padded ps ts)
+      → AreRepeats ts
+  repeats key us [] ps asks first done same = tt
+  repeats key [] (t ∷ ts) ps asks first done same = absurd first
+  repeats key (u ∷ us) (t ∷ ts) [] asks first done same = absurd asks
+  repeats key (u ∷ us) (t ∷ ts) (p ∷ ps) asks first done same = (
+    repeat key t.line t.done p (subst (λ l. Asks l p) (sym first.0) asks.0) done.0 same.0,
+    repeats key us ts ps asks.1 first.1 done.1 same.1,
+  )
 
 -- ---- the whole import
 
@@ -355,16 +352,17 @@ whole_list text done_rows n closing.ReadError over ends = absurd (cc ends)
 
 -- importing a list again that was imported whole changes nothing
 pub repeated_import_changes_nothing : RepeatedImportChangesNothing
-repeated_import_changes_nothing files text k again s old mid later new done_rows repeated between told known is own
+repeated_import_changes_nothing files text k again s old mid later new done_rows repeated between told is own
     first (n, why, over, ends) after may second =
     let (accepts, whole) = whole_list text done_rows n why over ends in
-    let took = all_in files k old mid done_rows first.done accepts first.run in
+    let took = all_in files k old mid done_rows (all_told files k done_rows first.deeds first.done first.told) accepts
+    first.run in
     let front = again_first text repeated done_rows second.first whole in
     let once : Run old (puts k took.publishes) (answers done_rows) mid =
     subst (λ es. Run old es (answers done_rows) mid) took.are first.run in
-    let twice = all_again files known again later new done_rows repeated took.publishes took.asks front second.done
-    second.run in
+    let done = all_told files again repeated second.deeds second.done second.told in
+    let twice = all_again files again later new done_rows repeated took.publishes took.asks front done second.run in
     let law = repeated_list_changes_nothing old mid later new s k again took.publishes between (answers done_rows) told
-    (padded files known took.publishes repeated)
+    (padded files took.publishes repeated)
     is own once took.accepts after may twice in
-    (repeats files known again done_rows repeated took.publishes took.asks front second.done law.0, law.1)
+    (repeats files again done_rows repeated took.publishes took.asks front done law.0, law.1)

@@ -23,24 +23,20 @@ use Rattle.world.specs.Registry.{is_top, is_group, lacks_group, team_added, afte
 use Rattle.world.specs.World.{World, IsWorld, common, is_team_name, is_key}
 use Rattle.world.proofs.Orders.{text_self}
 use Rattle.machine.specs.Machine.{after}
-use Rattle.control.specs.Asking.{Asks}
 use Rattle.control.specs.RegistryCommand.{event_of, outcome_in}
 use Rattle.orders.specs.Order as orders
 use Rattle.orders.specs.Order.{Ordered, HasLine, HasNoLine, add_word, added, commanded, line_for}
 use Rattle.orders.specs.Order.{longest, longest_of, said_in}
 use Rattle.orders.specs.Words.{Said, Two, Three, space, is_word, is_word_byte, are_words, text_of}
-use Rattle.control.specs.declared.client.SendError.{SendError}
+use Rattle.orders.specs.declared.order.Order.TheVariants as order
 use Rattle.orders.specs.declared.command.RegistryCommand.{RegistryCommand}
 use Rattle.orders.specs.declared.command.RegistryCommand.TheVariants.{TeamAdd, GroupAdd, KeyAdd}
 use Rattle.orders.specs.declared.command.RegistryCommand.TheVariants.{KeyRevoke, KeysRevoke}
-use Rattle.orders.specs.declared.outcome.Outcome.{Outcome}
 use Rattle.commands.specs.Ending.{ending}
-use Rattle.commands.specs.Order.{no_name, group_sent, IsSentFor, ComeToTheSame, refusal_by, unsayable, OrdersOver}
-use Rattle.commands.specs.Order.{IsUnsent}
-use Rattle.commands.specs.SentOrder.{order_ending}
+use Rattle.commands.specs.Order.{no_name, group_sent, ComeToTheSame, IsAlike, IsSentFor, unsayable}
+use Rattle.commands.specs.SentOrder.{refusal_by}
 use Rattle.commands.specs.declared.refusal.CommandRefusal.{CommandRefusal}
 use Rattle.commands.specs.declared.refusal.CommandRefusal.TheVariants.{NoTeam}
-use Rattle.commands.specs.declared.sent_order.SentOrder.TheVariants as which
 
 -- ---- words that a line can carry
 
@@ -361,27 +357,15 @@ unsent_ends (KeyRevoke key) sent is unsaid w world = ap (λ o. Err (unsayable o)
 unsent_ends (KeysRevoke shelf) sent is unsaid w world = ap (λ o. Err (unsayable o)) is
     ∙ sym (revoke_all_unsaid shelf (subst IsUnsayable is unsaid) w world)
 
--- ---- the command
+-- ---- what is sent for an order
 
--- a command that sends the order for its own, and ends by the result, does as `OrdersOver` says
-pub orders_over : (unread unread_new written written_new : Option (List ℕ)) (order asked : RegistryCommand)
-    (told : Result Outcome SendError) (result : Result (Unit {0}) CommandRefusal)
-    → IsSentFor order asked → Asks unread unread_new written written_new (orders.Registry (commanded asked)) told
-    → result ≡ order_ending which.Registry (unsayable asked) told
-    → OrdersOver unread unread_new written written_new order result
-orders_over unread unread_new written written_new order asked told result sends asks ends = record {
-  asked = asked;
-  same = comes_to_the_same order asked sends;
-  told = told;
-  asks = asks;
-  ends = ends;
-  unsent = λ is w world.
-      let unsaid = (subst (Asks unread unread_new written written_new (orders.Registry (commanded asked))) is asks).0 in
-      ends ∙ ap (order_ending which.Registry (unsayable asked)) is ∙ unsent_ends order asked sends unsaid w world;
-}
-
--- one whose order no line can carry ends so without a connection
-pub unsent_ending : (order asked : RegistryCommand) → IsSentFor order asked → IsUnsayable asked
-    → IsUnsent order (unsayable asked)
-unsent_ending order asked sends unsaid =
-    (asked, sends, unsaid, refl, λ world rules. unsent_ends order asked sends unsaid world rules)
+-- a registry command with a group that can be sent is one like it
+pub command_alike : (command asked : RegistryCommand) → IsSentFor command asked
+    → IsAlike (order.Registry command) (order.Registry asked)
+command_alike command asked sends = (
+  asked,
+  refl,
+  sends,
+  comes_to_the_same command asked sends,
+  λ unsaid world rules. unsent_ends command asked sends unsaid world rules,
+)

@@ -1,6 +1,6 @@
 -- What an action does on a store.
 use Rattle.std.specs.Borrow.{Bor}
-use Rattle.std.specs.Prelude.{ℕ, List, [], ◌≡◌, true, Bool, Option, None, option_copied, Result, Ok, Err}
+use Rattle.std.specs.Prelude.{ℕ, List, [], ◌≡◌, true, Bool, Option, option_copied, Result, Ok, Err}
 use Rattle.histories.specs.Account.{Account}
 use Rattle.histories.specs.Calls.{Reads, Writes}
 use Rattle.socket.specs.History.{Door}
@@ -15,14 +15,17 @@ use Rattle.commands.specs.NewKey.{AddsNew}
 use Rattle.commands.specs.Opening.{AnswersAll}
 use Rattle.commands.specs.Publish.{asked_by, PublishesFiles}
 use Rattle.commands.specs.RandomBytes.{Drawn, no_draws}
-use Rattle.commands.specs.Report.{PrintsCatalogOf, PrintsInventory, PrintsKeys, PrintsRequirements, PrintsShelves}
+use Rattle.commands.specs.Report.{PrintsCatalogOf, PrintsInventory, PrintsList, PrintsRequirements}
 use Rattle.commands.specs.Serve.{Made, Counted, ListensAs}
+use Rattle.commands.specs.Sources.{FileDone}
 use Rattle.commands.specs.declared.refusal.CommandRefusal.{CommandRefusal}
 use Rattle.commands.specs.declared.action.Action.{Action}
 use Rattle.commands.specs.declared.action.Action.TheVariants as action
+use Rattle.commands.specs.declared.action.Outside.{Outside}
 
--- What is seen of what an action reaches outside of its store and its streams, which is entrances `N` of callers: what
--- passed over the connections of operators and of peers, what is known of a new one, and who waits and what was done.
+-- What is seen of what an action reaches outside of its store and its streams, which is entrances of callers and files
+-- that are read: what passed over the connections of operators and of peers, what is known of a new one, who waits and
+-- what was done there; and the files that were read.
 pub record Views (N P O : Type 0) : Type 1 where
   pub heeded : O → Account × Reads
   pub told : O → Option (List ℕ) × Writes
@@ -30,6 +33,14 @@ pub record Views (N P O : Type 0) : Type 1 where
   pub written : P → Option (List ℕ) × Writes
   pub is_new : Caller P O → Type 0
   pub door : N → Door (Caller P O)
+  pub read : N → List FileDone
+
+-- what is seen of the entrances, or of the files, of what is reached
+abbrev pub of_entrances : {N F V : Type 0} → (N → V) → Outside N F → V
+of_entrances view outside = view outside.entrances
+
+abbrev pub of_files : {N F V : Type 0} → (F → V) → Outside N F → V
+of_files view outside = view outside.files
 
 -- a store, what is reached outside of it, what came on the input, and the bytes on the output, at a moment
 pub record Moment (S N : Type 0) : Type 0 where
@@ -49,6 +60,11 @@ module _ {S N : Type 0} (old new : Moment S N) where
     pub came : new.came ≡ old.came
     pub written : new.written ≡ old.written
     pub outside : new.outside ≡ old.outside
+
+-- nothing was read from the input, and nothing was done with callers
+pub record OnlyReads {S N P O : Type 0} (views : Views N P O) (old new : Moment S N) : Type 0 where
+  pub came : new.came ≡ old.came
+  pub door : views.door new.outside ≡ views.door old.outside
 
 -- the result of a command that is accepted once it is done
 abbrev pub acceptance : Result (Unit {0}) CommandRefusal → Result Bool CommandRefusal
@@ -86,18 +102,19 @@ module _ {S N P O : Type 0} (views : Views N P O) (shown : S → Shown) (made : 
     pub told : result ≡ acceptance ended
     pub outside : new.outside ≡ old.outside
 
-  -- callers who came in outside were served from the store, by these times of a calendar, and nothing was read from the
-  -- input
+  -- callers who came in outside were served from the store, by what a calendar showed, and nothing was read from the
+  -- input or from files
   pub record ServesConnections
       (entrance : ListenOn) (connections : ℕ) (control : Option (List ℕ))
       (result : Result Bool CommandRefusal) : Type 0 where
-    pub times : List (List ℕ)
+    pub times : List (Option (List ℕ))
     pub ended : Result (Unit {0}) CommandRefusal
     pub serves : ListensAs views.heeded views.told views.heard views.written views.is_new shown made counted
         old.store new.store entrance connections old.written new.written [] times
         (views.door old.outside) (views.door new.outside) ended control
     pub told : result ≡ acceptance ended
     pub came : new.came ≡ old.came
+    pub read : views.read new.outside ≡ views.read old.outside
 
   -- What is done by the kind of action: nothing, one command of the registry, a key that is made is added, the key of a
   -- fingerprint is revoked, one publish, those of a list, an inventory, a catalog, the requirements of a version, or a
@@ -109,10 +126,11 @@ module _ {S N P O : Type 0} (views : Views N P O) (shown : S → Shown) (made : 
   Acts result (action.AddNew shelf right) = AddsNewAlone shelf right result
   Acts result (action.RevokeByFingerprint fingerprint) = RevokesNamedAlone fingerprint.now result
   Acts result (action.Publish words files) =
-      PublishesFiles (λ name. None) files shown old.store new.store (asked_by words) old.written new.written result
-      × KeepsInput old new
+      PublishesFiles files (views.read old.outside) (views.read new.outside) shown old.store new.store (asked_by words)
+      old.written new.written result × OnlyReads views old new
   Acts result (action.Import key list) =
-      ImportsFile shown old.store new.store key.now old.written new.written result × KeepsInput old new
+      ImportsFile shown old.store new.store key.now list.now (views.read old.outside) (views.read new.outside)
+      old.written new.written result × OnlyReads views old new
   Acts result (action.Inventory key) =
       PrintsInventory (shown old.store) (shown new.store) key.now old.written new.written result × KeepsInput old new
   Acts result (action.Catalog key) =
@@ -120,10 +138,8 @@ module _ {S N P O : Type 0} (views : Views N P O) (shown : S → Shown) (made : 
   Acts result (action.Requires version) =
       PrintsRequirements (shown old.store) (shown new.store) version old.written new.written result
       × KeepsInput old new
-  Acts result action.KeyList = PrintsKeys (shown old.store) (shown new.store) old.written new.written result
-      × KeepsInput old new
-  Acts result action.ShelfList =
-      PrintsShelves (shown old.store) (shown new.store) old.written new.written result × KeepsInput old new
+  Acts result (action.List listing) =
+      PrintsList (shown old.store) (shown new.store) listing old.written new.written result × KeepsInput old new
   Acts result action.Answer = AnswersFrom result
   Acts result (action.Serve entrance connections control) =
       ServesConnections entrance connections (option_copied control) result

@@ -1,93 +1,83 @@
 -- What passes over a connection to a running `serve`.
 use Rattle.std.specs.Prelude.{ℕ, ◌≡◌, ◌<◌, ◌⊎◌, ◌++◌, All, IfSome, Bool, List, [], Option, Some, Result, Ok, Err}
 use Rattle.histories.specs.Account.{Account}
+use Rattle.histories.specs.Calls.{Reads, no_reads}
+use Rattle.engine.specs.Causes.{IsUnreadable, most_reads}
 use Rattle.engine.specs.Written.{IsBeginning}
-use Rattle.network.specs.History.{Calls, CallsMeanwhile, Done, Fails, deeds_between}
-use Rattle.orders.specs.Order.{HasNoLine, IsLineOf, Ordered, Ping}
-use Rattle.orders.specs.Outcome.{line_of}
-use Rattle.orders.specs.declared.outcome.Outcome.{Outcome}
-use Rattle.control.specs.Asking.{IsTold}
-use Rattle.control.specs.ControlReply.{bytes_told}
-use Rattle.control.specs.declared.control_reply.ControlReply.{ControlReply}
+use Rattle.network.specs.History.{Calls, CallsMeanwhile, Done, deeds_between}
+use Rattle.orders.specs.Order.{HasNoLine, IsLineOf, Ordered, Stop, Ping, ListOf, Copy, Catalog, RevokeByFingerprint}
+use Rattle.orders.specs.Order.{Registry}
+use Rattle.control.specs.Asking.{HasNoBound, IsNoReply, IsReplyTo}
+use Rattle.control.specs.declared.client.OrderReply.{OrderReply}
 use Rattle.control.specs.declared.client.SendError.{SendError}
 use Rattle.control.specs.declared.client.SendError.TheVariants as untold
-use Rattle.commands.specs.Report.{Prints}
-use Rattle.commands.specs.SentOrder.{order_ending}
-use Rattle.commands.specs.declared.refusal.CommandRefusal.{CommandRefusal}
-use Rattle.commands.specs.declared.sent_order.SentOrder.{SentOrder}
 
--- What passed over a connection: the bytes that were sent, those that came, and how many writes failed.
+-- What passed over a connection: the bytes that were sent, those that came and whether these are all, and the calls to
+-- read, and how many writes failed.
 pub record Passed : Type 0 where
   pub sent : List ℕ
   pub came : List ℕ
+  pub is_over : Bool
+  pub reads : Reads
   pub failed : ℕ
 
 -- it is all that passed over a connection whose ends gave and took this
-pub record IsAll (account : Account) (contents : Option (List ℕ)) (failures : ℕ) (passed : Passed) : Type 0 where
-  pub heard : account.heard ≡ passed.came
-  pub written : contents ≡ Some passed.sent
-  pub failed : failures ≡ passed.failed
+pub record IsAll (account : Account) (reads : Reads) (contents : Option (List ℕ)) (failures : ℕ) (passed : Passed) : Type 0
+  where
+    pub heard : account.heard ≡ passed.came
+    pub over : account.is_over ≡ passed.is_over
+    pub called : reads ≡ passed.reads
+    pub written : contents ≡ Some passed.sent
+    pub failed : failures ≡ passed.failed
 
--- ---- what the bytes that came tell
-
-abbrev pub IsOutcomeIn : Outcome → List ℕ → Type 0
-IsOutcomeIn told got = got ≡ line_of told
-
--- the lines of a health, or the line of an outcome
-abbrev pub IsHealthIn : ControlReply → List ℕ → Type 0
-IsHealthIn told got = IsTold told × (got ≡ bytes_told told)
-
--- The line of the order was sent, and what came tells this, and nothing else came. Or nothing was sent and nothing came,
--- because no bytes are such a line or memory ran out. Or a beginning of the line was sent, a write failed, and nothing
--- came. Or the line was sent, whatever came.
-abbrev pub Exchanges : {T : Type 0} → (T → List ℕ → Type 0) → Ordered → Passed → Result T SendError → Type 0
-Exchanges IsIn o p (Ok told) = IsLineOf p.sent o × IsIn told p.came
-Exchanges IsIn o p (Err untold.Words) = HasNoLine o × (p.sent ≡ []) × (p.came ≡ [])
-Exchanges IsIn o p (Err untold.Memory) = (p.sent ≡ []) × (p.came ≡ [])
-Exchanges IsIn o p (Err untold.Io) =
-    (line : List ℕ) × IsLineOf line o
-    × ((IsBeginning p.sent line × (0 < p.failed) × (p.came ≡ [])) ⊎ (p.sent ≡ line))
-
--- The line of the order was sent, and what came decides how the command ends.
-pub record EndsByOutcome (sent : SentOrder) (unsaid : CommandRefusal) (o : Ordered) (result : Result (Unit {0}) CommandRefusal)
-    (passed : Passed) : Type 0 where
-  pub told : Result Outcome SendError
-  pub exchanges : Exchanges IsOutcomeIn o passed told
-  pub ends : result ≡ order_ending sent unsaid told
-
--- The line of the order was sent, and what came decides what is printed, and how the command ends.
-pub record PrintsBy {T : Type 0} (IsIn : T → List ℕ → Type 0)
-    (ending : Result T SendError → Result (List ℕ) CommandRefusal) (o : Ordered) (printed printed_new : Option (List ℕ))
-    (result : Result Bool CommandRefusal) (passed : Passed) : Type 0 where
-  pub told : Result T SendError
-  pub exchanges : Exchanges IsIn o passed told
-  pub prints : Prints printed printed_new result (ending told)
+-- The line of the order was sent, and what came is this reply to it, and nothing else came. Or nothing was sent and
+-- nothing came, because no bytes are such a line or memory ran out. Or a beginning of the line was sent, a write failed,
+-- and nothing came. Or the line was sent, and a read failed or all that there are began; or what came is no reply,
+-- whatever may follow; or memory ran out for a reply that has no bound.
+abbrev pub Exchanges : Ordered → Passed → Result OrderReply SendError → Type 0
+Exchanges o p (Ok told) = IsLineOf p.sent o × IsReplyTo o told p.came
+Exchanges o p (Err untold.Words) = HasNoLine o × (p.sent ≡ []) × (p.came ≡ [])
+Exchanges o p (Err untold.Memory) = (p.sent ≡ []) × (p.came ≡ [])
+Exchanges o p (Err untold.Io) =
+    ((line : List ℕ) × IsLineOf line o × IsBeginning p.sent line × (0 < p.failed) × (p.came ≡ []))
+    ⊎ (IsLineOf p.sent o × IsUnreadable most_reads no_reads p.reads)
+Exchanges o p (Err untold.NoReply) = IsLineOf p.sent o × IsNoReply o p.is_over p.came
+Exchanges o p (Err untold.ReplyMemory) = IsLineOf p.sent o × HasNoBound o
 
 -- the server was asked for its health
 abbrev pub OnlyPings : Passed → Type 0
-OnlyPings passed = (told : Result ControlReply SendError) × Exchanges IsHealthIn Ping passed told
+OnlyPings passed = (told : Result OrderReply SendError) × Exchanges Ping passed told
 
 -- ---- which server is asked
 
--- `all` says what passed over a connection that was ended.
-module _ {L : Type 0} (all : L → Passed → Type 0) (before after : List (Done L)) (path : List ℕ) where
-  -- The server of this path was connected to once, all that passed over the connection is this, and nothing else was
-  -- connected to. Or it could not be connected to, which was tried once, and then this is so.
-  abbrev pub AsksServer : (Passed → Type 0) → Type 0 → Type 0
-  AsksServer By Unserved =
-      Calls before after path (λ link. (passed : Passed) × all link passed × By passed)
-      ⊎ (Fails before after path × Unserved)
+-- `all` says what passed over a connection that was ended: all that passed is this
+abbrev pub Passes : {L : Type 0} → (L → Passed → Type 0) → (Passed → Type 0) → L → Type 0
+Passes all By link = (passed : Passed) × all link passed × By passed
 
+module _ {L : Type 0} (all : L → Passed → Type 0) (before after : List (Done L)) (path : List ℕ) where
   -- the server of this path was asked for its health, as often as that may be, and nothing else was done
   abbrev pub PingsBetween : Type 0
   PingsBetween =
-      (between : List (Option L))
-      × All (λ asked. IfSome asked (λ link. (passed : Passed) × all link passed × OnlyPings passed)) between
+      (between : List (Option L)) × All (λ asked. IfSome asked (Passes all OnlyPings)) between
       × (after ≡ before ++ deeds_between path between)
 
-  -- So it was; meanwhile the server was only asked for its health, over connections of their own.
-  abbrev pub AsksServerAndPings : (Passed → Type 0) → Type 0 → Type 0
-  AsksServerAndPings By Unserved =
-      CallsMeanwhile before after path (λ link. (passed : Passed) × all link passed × By passed)
-      (λ link. (passed : Passed) × all link passed × OnlyPings passed)
-      ⊎ (Fails before after path × Unserved)
+  -- so it was while a copy was made; for another order, nothing was done
+  abbrev pub PingsIf : Ordered → Type 0
+  PingsIf (Copy to) = PingsBetween
+  PingsIf Stop = after ≡ before
+  PingsIf Ping = after ≡ before
+  PingsIf (ListOf listing) = after ≡ before
+  PingsIf (Catalog key) = after ≡ before
+  PingsIf (RevokeByFingerprint f) = after ≡ before
+  PingsIf (Registry command) = after ≡ before
+
+  -- The server of this path was connected to once, all that passed over the connection is this, and nothing else was
+  -- connected to. While a copy was made, it was also asked for its health, over connections of their own.
+  abbrev pub Meets : Ordered → (Passed → Type 0) → Type 0
+  Meets (Copy to) By = CallsMeanwhile before after path (Passes all By) (Passes all OnlyPings)
+  Meets Stop By = Calls before after path (Passes all By)
+  Meets Ping By = Calls before after path (Passes all By)
+  Meets (ListOf listing) By = Calls before after path (Passes all By)
+  Meets (Catalog key) By = Calls before after path (Passes all By)
+  Meets (RevokeByFingerprint f) By = Calls before after path (Passes all By)
+  Meets (Registry command) By = Calls before after path (Passes all By)

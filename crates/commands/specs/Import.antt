@@ -22,6 +22,7 @@ use Rattle.commands.specs.ImportLine.{accepts_outcome, numbered, outcome_text}
 use Rattle.commands.specs.ImportList.{HasRead, IsNoText, IsNone, Line, Meets, fields_of_line, header}
 use Rattle.commands.specs.Printed.{IsFront, PrintsFront}
 use Rattle.commands.specs.Publish.{answer_of, asked}
+use Rattle.commands.specs.Sources.{Adds, FileDone}
 use Rattle.commands.specs.declared.import.Closing.{Closing}
 use Rattle.commands.specs.declared.import.Closing.TheVariants as closing
 use Rattle.commands.specs.declared.import.Ending.{Ending}
@@ -84,16 +85,19 @@ outcome_of (Answers request answer) = outcome.Answered (fixed_answer answer)
 outcome_of HasNoFile = outcome.NoFile
 outcome_of Unfetched = outcome.Answered Unavailable
 
-module _ (files : List ℕ → Option (Option (List ℕ))) (key : List ℕ) where
-  -- this could be done with the row, by what is known of its files
-  abbrev pub IsDone : Line → Done → Type 0
-  IsDone l (Answers request answer) = (body : Body) × IsBodyOf files l (Ok body) × (request ≡ request_of key l body)
-  IsDone l HasNoFile = IsBodyOf files l (Err source.NoFile)
-  IsDone l Unfetched = Unit {0}
+module _ (key : List ℕ) where
+  -- this was done with the row, by what was read for it
+  abbrev pub IsDone : Line → Done → List FileDone → Type 0
+  IsDone l (Answers request answer) deeds =
+      (body : Body) × IsBodyOf l (Ok body) deeds × (request ≡ request_of key l body)
+  IsDone l HasNoFile deeds = IsBodyOf l (Err source.NoFile) deeds
+  IsDone l Unfetched deeds = IsBodyOf l (Err source.Memory) deeds
 
-  abbrev pub AreDone : List DoneRow → Type 0
-  AreDone [] = Unit {0}
-  AreDone (t ∷ ts) = IsDone t.line t.done × AreDone ts
+  -- so it was with each row, one after another
+  abbrev pub AreDone : List DoneRow → List FileDone → Type 0
+  AreDone [] deeds = deeds ≡ []
+  AreDone (t ∷ ts) deeds =
+      (first rest : List FileDone) × (deeds ≡ first ++ rest) × IsDone t.line t.done first × AreDone ts rest
 
 -- ---- what is printed
 
@@ -166,11 +170,11 @@ IsOver list done_rows n why =
 
 -- ---- the import
 
--- the store went through the rows in a run of publishes
+-- the files that the rows name were read, and no others, and the store went through the rows in a run of publishes
 pub record GoesThrough
-    (old new : Shown) (files : List ℕ → Option (Option (List ℕ))) (key : List ℕ)
+    (old new : Shown) (before after : List FileDone) (key : List ℕ)
     (done_rows : List DoneRow) : Type 0 where
-  pub done : AreDone files key done_rows
+  pub done : Adds before after (AreDone key done_rows)
   pub runs : Runs old new (events done_rows) (answers done_rows)
   -- the count never falls, and a `Device` fault is met only if it grew or is full
   pub no_fewer : old.failures ≤ new.failures
@@ -194,12 +198,12 @@ Ends list written written_new done_rows result =
 
 -- The rows at the front of the list were published one after another, and the import ended as `Ends` says.
 pub record Imports
-    (old new : Shown) (files : List ℕ → Option (Option (List ℕ))) (key : List ℕ)
+    (old new : Shown) (before after : List FileDone) (key : List ℕ)
     (list written written_new : Option (List ℕ))
     (result : Result Ending Io) : Type 0 where
   pub done_rows : List DoneRow
   pub first : AreFirst list done_rows
-  pub through : GoesThrough old new files key done_rows
+  pub through : GoesThrough old new before after key done_rows
   pub ends : Ends list written written_new done_rows result
 
 -- ---- its steps
@@ -214,10 +218,10 @@ pub record Publishes (old new : Shown) (request : Request) (answer : Fixed) : Ty
 
 -- a row was done, with this outcome
 pub record DoesRow
-    (old new : Shown) (files : List ℕ → Option (Option (List ℕ))) (key : List ℕ) (l : Line)
+    (old new : Shown) (before after : List FileDone) (key : List ℕ) (l : Line)
     (result : RowOutcome) : Type 0 where
   pub done : Done
-  pub through : GoesThrough old new files key (record { line = l; done = done } ∷ [])
+  pub through : GoesThrough old new before after key (record { line = l; done = done } ∷ [])
   pub is : result ≡ outcome_of done
 
 -- the line that ends the import, if there is one, was printed, or the output broke off
@@ -238,16 +242,16 @@ module _ {R : Type 0} (remaining : R → Option (List ℕ)) where
   FieldsRead list rows reader fields None = HasRead remaining list (rows ++ fields ∷ []) reader
   FieldsRead list rows reader fields (Some why) = IsClosing list rows why
 
-  module _ (old new : Shown) (files : List ℕ → Option (Option (List ℕ))) (key : List ℕ) (list : Option (List ℕ))
+  module _ (old new : Shown) (before after : List FileDone) (key : List ℕ) (list : Option (List ℕ))
       (rows : List (List (List ℕ))) (reader : Reader R) (n : ℕ) (written written_new : Option (List ℕ)) where
     -- a row was done after these rows
     pub record DoesNextRow (t : DoneRow) : Type 0 where
-      pub through : GoesThrough old new files key (t ∷ [])
+      pub through : GoesThrough old new before after key (t ∷ [])
       pub read : HasRead remaining list (rows ++ fields_of_line t.line ∷ []) reader
 
     -- no row was done
     pub record IsIdle (why : Closing) : Type 0 where
-      pub through : GoesThrough old new files key []
+      pub through : GoesThrough old new before after key []
       pub closing : IsClosing list rows why
       pub output : written_new ≡ written
 

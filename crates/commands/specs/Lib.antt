@@ -1,6 +1,7 @@
 pub mod Controlled
 pub mod Ending
 pub mod Exit
+pub mod Front
 pub mod Import
 pub mod ImportFile
 pub mod ImportFiles
@@ -9,11 +10,10 @@ pub mod ImportList
 pub mod Inventory
 pub mod Rows
 pub mod Lines
-pub mod Listing
+pub mod MemoryFiles
 pub mod NewKey
 pub mod Opening
 pub mod Order
-pub mod Ping
 pub mod Printed
 pub mod Publish
 pub mod RandomBytes
@@ -22,7 +22,6 @@ pub mod Report
 pub mod Requirements
 pub mod SentOrder
 pub mod Serve
-pub mod ServedCatalog
 pub mod Sources
 pub mod Action
 pub mod Connection

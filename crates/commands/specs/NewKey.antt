@@ -11,7 +11,7 @@ use Rattle.orders.specs.declared.command.RegistryCommand.TheVariants.{KeyAdd, Ke
 use Rattle.commands.specs.Ending.{Registers}
 use Rattle.network.specs.History.{Done}
 use Rattle.commands.specs.Connection.{Passed}
-use Rattle.commands.specs.Order.{OrdersTo}
+use Rattle.commands.specs.Order.{OrdersAt}
 use Rattle.commands.specs.Printed.{HasFailed, PrintsFront}
 use Rattle.commands.specs.RandomBytes.{Drawn, Gives, GivesNone, no_draws}
 use Rattle.commands.specs.declared.refusal.CommandRefusal.{CommandRefusal}
@@ -93,13 +93,10 @@ AddsNew shown drawn drawn_new old new shelf right written written_new result =
 
 -- so it is of a `serve` that is asked: each order was sent to the server of this path, and to no other
 module _ {L : Type 0} (all : L → Passed → Type 0) (path : List ℕ) where
-  abbrev pub OrdersAt : List (Done L) → List (Done L) → RegistryCommand → Result (Unit {0}) CommandRefusal → Type 0
-  OrdersAt before after order ended = OrdersTo all before after path order ended
-
   abbrev pub OrdersDrawn : List (Done L) → List (Done L) → Drawn → Drawn → Bor (List ℕ) → Right
       → Option (List ℕ) → Option (List ℕ) → Result (Unit {0}) CommandRefusal → Type 0
   OrdersDrawn before after drawn drawn_new shelf right written written_new result =
-      AddsDrawn OrdersAt shelf right drawn drawn_new before after written written_new result
+      AddsDrawn (OrdersAt all path) shelf right drawn drawn_new before after written written_new result
 
   -- so it is where nothing was drawn before
   abbrev pub OrdersNew : List (Done L) → List (Done L) → Bor (List ℕ) → Right → Option (List ℕ) → Option (List ℕ)

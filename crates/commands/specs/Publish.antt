@@ -1,5 +1,5 @@
 -- A publish of files, by the words of a command line or a list.
-use Rattle.std.specs.Prelude.{ℕ, List, ◌≡◌, ◌⊎◌, ◌==◌, ◌||◌, ◌++◌, codes, Bool, Option, Some, None, Result, Ok, Err}
+use Rattle.std.specs.Prelude.{ℕ, List, ◌≡◌, ◌==◌, ◌||◌, ◌++◌, codes, Bool, Option, Some, None, Result, Ok, Err}
 use Rattle.std.specs.Prelude.{MatchResult}
 use Rattle.std.specs.Option.{option_copied}
 use Rattle.std.specs.Io.KnownBytes.{Appends}
@@ -8,7 +8,6 @@ use Rattle.modver.specs.SemanticVersion.{SemanticVersion}
 use Rattle.machine.specs.Machine.{request_reply, after_request}
 use Rattle.world.specs.Forms.{path_of}
 use Rattle.world.specs.Store.{Shown, Does}
-use Rattle.world.specs.World.{gomod_limit, zip_limit}
 use Rattle.machine.specs.declared.request.Request.{Request}
 use Rattle.machine.specs.declared.request.Request.TheVariants.{Unreadable, Put}
 use Rattle.machine.specs.declared.request.Body.{Body}
@@ -23,7 +22,7 @@ use Rattle.wire.specs.Reply.{line_bytes, fixed_status}
 use Rattle.wire.specs.declared.reply.Fixed.{Fixed}
 use Rattle.wire.specs.declared.reply.Fixed.TheVariants as fixed
 use Rattle.commands.specs.Printed.{PrintsFront}
-use Rattle.commands.specs.Sources.{IsRead}
+use Rattle.commands.specs.Sources.{Adds, FileDone, ReadsBoth}
 use Rattle.commands.specs.declared.publish.Files.{Files}
 use Rattle.commands.specs.declared.publish.Words.{Words}
 use Rattle.commands.specs.declared.refusal.CommandRefusal.{CommandRefusal}
@@ -82,20 +81,6 @@ pub record PublishesAndTells
     pub does : Does old new told (λ w. request_reply w request) (λ w. after_request w request)
     pub tells : PrintsAnswer (answer_of told) written written_new result
 
-module _ (known : List ℕ → Option (Option (List ℕ))) (files : Files) where
-  -- this may be read from the two files, by what is known of them
-  abbrev pub GoModIs : Result (List ℕ) SourceFault → Type 0
-  GoModIs read = IsRead gomod_limit (known files.gomod.now) read
-
-  abbrev pub ZipIs : Result (List ℕ) SourceFault → Type 0
-  ZipIs read = IsRead zip_limit (known files.zip.now) read
-
-  -- the go.mod and the zip were read, each from the file that is named for it, or one of them could not be
-  abbrev pub AreRead : Result Body SourceFault → Type 0
-  AreRead (Ok body) = GoModIs (Ok body.gomod) × ZipIs (Ok body.zip)
-  AreRead (Err file.NoFile) = GoModIs (Err file.NoFile) ⊎ ZipIs (Err file.NoFile)
-  AreRead (Err file.Memory) = Unit {0}
-
 module _ {S : Type 0} (shown : S → Shown) (old new : S) (request : Body → Request) where
   -- How a publish ends, by how its two files were read. If they were, they are published, and the outcome is printed.
   -- If memory ran out, the 503 is printed; if one can't be read, nothing is; and the store stays as it was.
@@ -106,10 +91,10 @@ module _ {S : Type 0} (shown : S → Shown) (old new : S) (request : Body → Re
       × PrintsAnswer fixed.Unavailable written written_new result
   EndsBy written written_new result (Err file.NoFile) = (new ≡ old) × (written_new ≡ written) × (result ≡ Err Io)
 
-module _ (known : List ℕ → Option (Option (List ℕ))) (files : Files) {S : Type 0} (shown : S → Shown) (old new : S)
+module _ (files : Files) (before after : List FileDone) {S : Type 0} (shown : S → Shown) (old new : S)
     (request : Body → Request) where
-  -- the two files were read or not, and the publish ended by that
+  -- the two files were read or not, and no other, and the publish ended by that
   pub record PublishesFiles (written written_new : Option (List ℕ)) (result : Result Bool CommandRefusal) : Type 0 where
     pub read : Result Body SourceFault
-    pub are : AreRead known files read
+    pub are : Adds before after (ReadsBoth files.gomod.now files.zip.now read)
     pub ends : EndsBy shown old new request written written_new result read

@@ -1,7 +1,8 @@
 -- Importing a list again that was imported whole.
-use Rattle.std.specs.Prelude.{ℕ, ◌≡◌, ◌⊎◌, List, [], ◌∷◌, Option, Some, None}
+use Rattle.std.specs.Prelude.{ℕ, ◌≡◌, ◌⊎◌, ◌++◌, List, [], ◌∷◌, IsTrue, Option, Some, None}
 use Rattle.std.specs.List.{list_all}
 use Rattle.std.specs.FinMap as map
+use Rattle.histories.specs.Account.{Account}
 use Rattle.machine.specs.Isolation.{belongs}
 use Rattle.machine.specs.Machine.{Run}
 use Rattle.machine.specs.declared.request.Event.{Event}
@@ -11,13 +12,32 @@ use Rattle.world.specs.World.{World, IsWorld}
 use Rattle.world.specs.declared.entry.Right.TheVariants.{Publishes}
 use Rattle.commands.specs.Import.{AreDone, AreFirst, IsOver, DoneRow, answers, ending_of, events, is_accepted}
 use Rattle.commands.specs.Import.{outcome_of}
+use Rattle.commands.specs.Sources.{FileDone}
 use Rattle.commands.specs.declared.import.Closing.{Closing}
 use Rattle.commands.specs.declared.import.Ending.TheVariants.{AllIn}
 use Rattle.commands.specs.declared.import_line.RowOutcome.TheVariants.{Answered}
+use Rattle.commands.specs.declared.sources.FileDeed.{FileDeed}
+use Rattle.commands.specs.declared.sources.FileDeed.TheVariants.{Read, Failed, Refused, Unfetched}
 
--- each file is known, or that there is none
-abbrev pub IsKnown : (List ℕ → Option (Option (List ℕ))) → Type 0
-IsKnown files = (name : List ℕ) → files name ≡ None → ⊥
+-- What a history tells of the files: what was read is the beginning of a file that is there, all of it if it was read to
+-- its end; no read failed; and what the system did not open is not there.
+module _ (files : List ℕ → Option (List ℕ)) where
+  pub record TellsRead (name : List ℕ) (a : Account) : Type 0 where
+    pub all : List ℕ
+    pub there : files name ≡ Some all
+    pub rest : List ℕ
+    pub same : all ≡ a.heard ++ rest
+    pub over : IsTrue a.is_over → rest ≡ []
+
+  abbrev pub Tells : List ℕ → FileDeed Account → Type 0
+  Tells name (Read a) = TellsRead name a
+  Tells name (Failed a) = ⊥
+  Tells name Refused = files name ≡ None
+  Tells name Unfetched = Unit {0}
+
+  abbrev pub TellsEach : List FileDone → Type 0
+  TellsEach [] = Unit {0}
+  TellsEach (done ∷ more) = Tells done.0 done.1 × TellsEach more
 
 -- the row was answered `200 already published` or 503
 abbrev pub IsRepeat : DoneRow → Type 0
@@ -33,9 +53,11 @@ MayPublish w key shelf = map.get w.keys key ≡ Some (record { shelf = shelf; ri
 
 -- With this key and these files, an import led from one world to the other, through the first rows of the list.
 pub record ImportRuns
-    (files : List ℕ → Option (Option (List ℕ))) (text key : List ℕ) (old : World) (done_rows : List DoneRow)
+    (files : List ℕ → Option (List ℕ)) (text key : List ℕ) (old : World) (done_rows : List DoneRow)
     (new : World) : Type 0 where
-  pub done : AreDone files key done_rows
+  pub deeds : List FileDone
+  pub done : AreDone key done_rows deeds
+  pub told : TellsEach files deeds
   pub first : AreFirst (Some text) done_rows
   pub run : Run old (events done_rows) (answers done_rows) new
 
@@ -49,9 +71,9 @@ EndsAllIn text done_rows =
 -- then may publish to s, answers each row `200 already published` or 503, and changes nothing.
 abbrev pub RepeatedImportChangesNothing : Type 0
 RepeatedImportChangesNothing =
-    (files : List ℕ → Option (Option (List ℕ))) (text k again s : List ℕ) (old mid later new : World)
+    (files : List ℕ → Option (List ℕ)) (text k again s : List ℕ) (old mid later new : World)
     (done_rows repeated : List DoneRow)
-    (between : List Event) (told : List Answer) → IsKnown files → IsWorld old → belongs old k s
+    (between : List Event) (told : List Answer) → IsWorld old → belongs old k s
     → ImportRuns files text k old done_rows mid → EndsAllIn text done_rows → Run mid between told later
     → MayPublish later again s → ImportRuns files text again later repeated new
     → AreRepeats repeated × (new ≡ later)

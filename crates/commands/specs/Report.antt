@@ -5,9 +5,9 @@ use Rattle.std.specs.Io.KnownBytes.{Appends}
 use Rattle.catalog.specs.Printing.{PrintsCatalog}
 use Rattle.catalog.specs.declared.print.PrintError.{PrintError}
 use Rattle.catalog.specs.declared.print.PrintError.TheVariants as unprinted
-use Rattle.keyring.specs.KeyList.{ListsKeys}
-use Rattle.keyring.specs.ShelfList.{shelf_text}
+use Rattle.control.specs.Listing.{ReadsList}
 use Rattle.modver.specs.Reading.{version_of}
+use Rattle.orders.specs.declared.listing.Listing.{Listing}
 use Rattle.world.specs.Forms.{path_of}
 use Rattle.world.specs.Store.{Shown, Reads}
 use Rattle.world.specs.declared.registry.StoreFault.{StoreFault}
@@ -84,16 +84,9 @@ pub record PrintsRequirements
       (λ w. required_by w (map.get w.keys version.key.now) (path_of version.path.now) (version_of version.version.now))
   pub prints : Prints written written_new result (requirements_ending told)
 
--- the lines of all keys were read, which changes nothing, and printed in byte order
-pub record PrintsKeys (old new : Shown) (written written_new : Option (List ℕ))
+-- a list of the store was read, which changes nothing, and printed
+pub record PrintsList (old new : Shown) (listing : Listing) (written written_new : Option (List ℕ))
     (result : Result Bool CommandRefusal) : Type 0 where
   pub told : Result (List ℕ) StoreFault
-  pub lists : ListsKeys old new told
-  pub prints : Prints written written_new result (list_ending told)
-
--- the lines of all shelves were read, which changes nothing, and printed
-pub record PrintsShelves (old new : Shown) (written written_new : Option (List ℕ))
-    (result : Result Bool CommandRefusal) : Type 0 where
-  pub told : Result (List ℕ) StoreFault
-  pub reads : Reads old new told shelf_text
+  pub reads : ReadsList old new listing told
   pub prints : Prints written written_new result (list_ending told)

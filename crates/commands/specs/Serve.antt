@@ -108,7 +108,7 @@ module _ {P O : Type 0} (heeded : O → Account × Reads) (told : O → Option (
     ServesIfOpen (Ok u) = ServesCallers
     ServesIfOpen (Err e) = ServesNobody old new entrance printed printed_new door left e
 
-  module _ (times times_new : List (List ℕ)) (door left : Door (Caller P O)) (result : Result (Unit {0}) CommandRefusal)
+  module _ (times times_new : List (Option (List ℕ))) (door left : Door (Caller P O)) (result : Result (Unit {0}) CommandRefusal)
     where
       -- without operators: peers were served or not, and then all was closed
       pub record Listens : Type 0 where
@@ -117,7 +117,7 @@ module _ {P O : Type 0} (heeded : O → Account × Reads) (told : O → Option (
             result
         pub closes : Does ended left [] deed.Closed
 
-      -- The calendar showed one time more, the socket at this path was made for operators, and callers were served or
+      -- The calendar was read once, and showed a time, the socket at this path was made for operators, and callers were served or
       -- not. Then the name of the socket was taken away, and all was closed.
       pub record ListensToBoth (path : List ℕ) : Type 0 where
         pub since : List ℕ

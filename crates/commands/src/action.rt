@@ -1,28 +1,29 @@
-//! The actions of commands on a store, whichever store it is.
-ghost use Rattle.std.specs.Prelude.{◌≡◌};
+//! What commands do on an open store, whichever it is. `act_on` has no runtime of the system: it reaches what it is
+//! handed, and the histories of that say all that it did there.
+ghost use Rattle.std.specs.Prelude.{◌≡◌, []};
 ghost use Rattle.commands.specs.Action as spec;
+ghost use Rattle.commands.specs.RandomBytes.{no_draws};
 ghost use Rattle.socket.specs.Connections.{both};
 
 use crate::answer::answer_input;
 use crate::import_file::import_file;
-use crate::moment::SystemWallClock;
+use crate::import_progress::ImportProgress;
 use crate::new_key::add_new;
 use crate::publish::{Files, Words, publish};
-use crate::random_bytes::SystemRandomBytes;
+use crate::random_bytes::RandomBytes;
 use crate::refusal::CommandRefusal;
 use crate::registry::{register, revoke_by_fingerprint};
-use crate::report::{
-    Named, print_catalog, print_inventory, print_keys, print_requirements, print_shelves,
-};
+use crate::report::{Named, print_catalog, print_inventory, print_list, print_requirements};
 use crate::serve::serve;
-use crate::sources::SystemFiles;
-use control::{Copies, Operator};
-use histories::{Hear, Tell, Telling};
+use crate::sources::Sources;
+use control::{Copies, Operator, WallClock};
+use histories::{Hear, Tell};
 use keyring::Keyring;
-use orders::RegistryCommand;
+use orders::{Listing, RegistryCommand};
 use outline::outlines::Outlines;
 use socket::{Entrances, ListenOn, Peer};
-use std::rt::HostRuntime;
+use std::alloc::Global;
+use std::time::Clock;
 use world::entry::Right;
 
 /// What a command does on an open store.
@@ -65,14 +66,14 @@ pub enum Action<'a> {
     Requires {
         version: Named<'a>,
     },
-    /// `key-list`: prints a line for each key, which does not show the key.
-    KeyList,
-    /// `shelf-list`: prints a line for each shelf.
-    ShelfList,
+    /// A list, such as `key-list`: prints its lines.
+    List {
+        listing: Listing,
+    },
     /// `answer --db F`: answers the requests on the input.
     Answer,
     /// `serve`: answers one request on each of this many connections, and between them carries out the orders that come
-    /// over a socket, if one is named, copies among them.
+    /// over the socket `control`, if it is named.
     Serve {
         entrance: ListenOn,
         connections: u32,
@@ -80,27 +81,53 @@ pub enum Action<'a> {
     },
 }
 
+/// What an action reaches outside of its store and its streams.
+#[derive(Drop)]
+pub struct Outside<N, F> {
+    /// Where callers come in.
+    pub entrances: N,
+    /// The files that are read.
+    pub files: F,
+}
+
 /// Does one action on a store and returns whether it was accepted; only a publish and an import can be done and not
 /// accepted. `copies` makes the copies that are ordered while the store is served, and counts its versions for a ping.
-/// `serve` lets callers in by `entrances`, and tells on standard error what happens; no other action opens those.
-/// Fails as the function of the action does.
+///
+/// It has no handle of the system, so what it reaches is what it is handed. `serve` lets callers in by the entrances of
+/// `outside`, and writes notices to `errors`; no other action opens those. A publish and an import read by the files of
+/// `outside`, and no other action does. A key is made of `random`. `clock` bounds the time of callers, `calendar` shows
+/// when a `serve` began, and `copied` when a copy was made. `progress` shows how far an import is. Fails as the
+/// function of the action does.
 pub fn act_on<
+    C: Clock,
+    D: WallClock + Drop,
+    B: RandomBytes,
     S: Outlines + Keyring,
     K: Copies<S>,
     P: Peer + Drop,
     Q: Operator + Drop,
     N: Entrances<P, Q>,
+    F: Sources,
     I: Hear,
     O: Tell,
+    E: Tell,
 >(
-    rt: &HostRuntime,
+    alloc: Global,
+    clock: &C,
+    calendar: &mut D,
+    copied: D,
+    random: &mut B,
+    progress: &ImportProgress<'_>,
     shelves: &mut S,
     copies: &K,
-    entrances: &mut N,
+    outside: &mut Outside<N, F>,
     action: &Action,
     input: &mut I,
     output: &mut O,
+    errors: &mut E,
 ) -> Result<bool, CommandRefusal>
+    requires unshown { D.shown calendar.old ≡ [] }
+    requires undrawn { B.drawn random.old ≡ no_draws }
     ensures { spec.Acts
         (record {
           heeded = both Q.came Q.reads;
@@ -108,18 +135,19 @@ pub fn act_on<
           heard = both P.came P.reads;
           written = both P.written P.writes;
           is_new = N.is_new;
-          door = both N.waiting N.history;
+          door = spec.of_entrances (both N.waiting N.history);
+          read = spec.of_files F.history;
         })
         S.shown K.made K.counted
         (record {
           store = shelves.old;
-          outside = entrances.old;
+          outside = outside.old;
           came = I.account input.old;
           written = O.contents output.old;
         })
         (record {
           store = shelves.new;
-          outside = entrances.new;
+          outside = outside.new;
           came = I.account input.new;
           written = O.contents output.new;
         })
@@ -128,51 +156,46 @@ pub fn act_on<
     match action {
         Action::Open => Ok(true),
         Action::Register { command } => acceptance(register(shelves, command)),
-        Action::AddNew { shelf, right } => acceptance(add_new(
-            rt.alloc(),
-            &mut SystemRandomBytes::new(rt),
-            shelves,
-            shelf,
-            *right,
-            output,
-        )),
+        Action::AddNew { shelf, right } => {
+            acceptance(add_new(alloc, random, shelves, shelf, *right, output))
+        }
         Action::RevokeByFingerprint { fingerprint } => {
-            acceptance(revoke_by_fingerprint(rt.alloc(), shelves, fingerprint))
+            acceptance(revoke_by_fingerprint(alloc, shelves, fingerprint))
         }
         Action::Publish { words, files } => {
-            publish(
-                rt.alloc(),
-                shelves,
-                words,
-                &SystemFiles { rt },
-                files,
-                output,
-            )
+            publish(alloc, shelves, words, &mut outside.files, files, output)
         }
-        Action::Import { key, list } => import_file(rt, shelves, key, list, output),
-        Action::Inventory { key } => print_inventory(rt.alloc(), shelves, key, output),
-        Action::Catalog { key } => print_catalog(rt.alloc(), shelves, key, output),
-        Action::Requires { version } => print_requirements(rt.alloc(), shelves, version, output),
-        Action::KeyList => print_keys(rt.alloc(), shelves, output),
-        Action::ShelfList => print_shelves(rt.alloc(), shelves, output),
-        Action::Answer => acceptance(answer_input(rt.alloc(), shelves, input, output)),
+        Action::Import { key, list } => import_file(
+            alloc,
+            shelves,
+            key,
+            list,
+            &mut outside.files,
+            progress,
+            output,
+        ),
+        Action::Inventory { key } => print_inventory(alloc, shelves, key, output),
+        Action::Catalog { key } => print_catalog(alloc, shelves, key, output),
+        Action::Requires { version } => print_requirements(alloc, shelves, version, output),
+        Action::List { listing } => print_list(alloc, shelves, *listing, output),
+        Action::Answer => acceptance(answer_input(alloc, shelves, input, output)),
         Action::Serve {
             entrance,
             connections,
             control,
         } => acceptance(serve(
-            rt.alloc(),
-            rt,
-            &mut SystemWallClock::new(rt),
-            SystemWallClock::new(rt),
+            alloc,
+            clock,
+            calendar,
+            copied,
             shelves,
             copies,
-            entrances,
+            &mut outside.entrances,
             *entrance,
             *connections,
             *control,
             output,
-            &mut Telling::new(rt.stderr()),
+            errors,
         )),
     }
 }

@@ -45,7 +45,7 @@ impl Exit {
     }
 
     /// Writes the line that says why the command was refused, if it was. If a write fails, a beginning of the line is
-    /// written and the rest is given up, because the exit status still says that the command failed.
+    /// written and the rest is dropped, because the exit status still says that the command failed.
     pub fn tell<E: Tell>(self, errors: &mut E)
         ensures { spec.Says (E.contents errors.old) (E.contents errors.new) self }
     {

@@ -1,24 +1,25 @@
 //! `import`: publishes each row of a list.
-ghost use Rattle.std.specs.Prelude.{◌≡◌, ◌&&◌, ℕ, List, [], ◌∷◌, ◌++◌, Option, option_copied, OnOk};
+ghost use Rattle.std.specs.Prelude.{◌≡◌, ◌&&◌, ℕ, List, [], ◌∷◌, ◌++◌, Option, option_copied, IfOk, OnOk};
 ghost use Rattle.csv.specs.Records.{fields_of};
 ghost use Rattle.engine.specs.Causes.{FailsWith};
 ghost use Rattle.commands.specs.Import as spec;
-ghost use Rattle.commands.specs.ImportFiles.{IsBodyOf};
+ghost use Rattle.commands.specs.ImportFiles.{IsBodyOf, is_readable};
 ghost use Rattle.commands.specs.ImportList.{HasRead, header, line_of_row};
+ghost use Rattle.commands.specs.Sources.{Adds};
 
 use crate::import_line::{RowOutcome, print_bad_row, print_outcome};
 use crate::import_list::{ImportRow, NextRow, is_header, open, read_next, row_of};
-use crate::publish::{Words, answer_of, publish_by};
+use crate::import_progress::ImportProgress;
+use crate::publish::{Files, Words, answer_of, publish_by, read_files};
 use crate::sources::{SourceFault, Sources};
 use csv::{Reader, StringRecord};
 use engine::Io;
 use histories::Tell;
 use machine::request::Body;
-use std::alloc::Global;
+use std::alloc::{AllocError, Global};
 use std::io::{Read, Write};
 use wire::reply::Fixed;
 use world::bytes::Bytes;
-use world::entry::{MAX_GOMOD, MAX_ZIP};
 use world::forms::{path_of, version_of};
 use world::shelves::Shelves;
 
@@ -56,11 +57,11 @@ pub enum Step {
 /// Publishes each row of a list with a key, prints a line for each once it is done, and returns how the import ended.
 /// The line is the number of the row, and its answer or `no file`.
 ///
-/// A row is published with the files that it names, by the checks of a publish. If one of them can't be read, its line
-/// is `no file` and nothing is stored for it; if memory runs out for them, its line is `503 unavailable`. The line `bad
-/// row` ends the import if the header is wrong or absent, or a row is not UTF-8 or does not have five fields. The line
-/// `503 unavailable` ends it if the rest of the list can't be read. A list of the header alone ends as all accepted. A
-/// list with more rows than a `u64` counts ends as one whose rest can't be read.
+/// A row is published with the files that it names, by the checks of a publish, and no other file is read. If one of
+/// them can't be read, its line is `no file` and nothing is stored for it; if memory runs out for them, its line is
+/// `503 unavailable`. The line `bad row` ends the import if the header is wrong or absent, or a row is not UTF-8 or
+/// does not have five fields. The line `503 unavailable` ends it if the rest of the list can't be read. A list of the
+/// header alone ends as all accepted. A list with more rows than a `u64` counts ends as one whose rest can't be read.
 ///
 /// `Io::Write` if a line can't be printed; the row of the line is done.
 pub fn import<S: Shelves, L: Read + Drop, F: Sources, O: Tell>(
@@ -68,11 +69,13 @@ pub fn import<S: Shelves, L: Read + Drop, F: Sources, O: Tell>(
     shelves: &mut S,
     key: &str,
     list: L,
-    sources: &F,
+    sources: &mut F,
+    progress: &ImportProgress<'_>,
     output: &mut O,
 ) -> Result<Ending, Io>
-    ensures imports { spec.Imports (S.shown shelves.old) (S.shown shelves.new) (F.known sources.now) key.now
-        (L.remaining list) (O.contents output.old) (O.contents output.new) result }
+    ensures imports { spec.Imports (S.shown shelves.old) (S.shown shelves.new)
+        (F.history sources.old) (F.history sources.new) key.now (L.remaining list)
+        (O.contents output.old) (O.contents output.new) result }
     // It fails only if a call of the output failed.
     ensures fails { FailsWith (O.writes output.old).failed (O.writes output.new).failed result }
     // What was printed is flushed.
@@ -92,11 +95,12 @@ pub fn import<S: Shelves, L: Read + Drop, F: Sources, O: Tell>(
             &mut reader,
             &mut fields,
             sources,
+            progress,
             number,
             output,
         ) {
             Ok(Step::Row(accepts)) => {
-                sources.row_done(number);
+                progress.row_done(number);
                 accepted = both(accepted, accepts);
             }
             Ok(Step::Over(closing)) => return close(number, closing, accepted, output),
@@ -139,13 +143,14 @@ fn import_next<S: Shelves, R: Read, F: Sources, O: Tell>(
     key: &str,
     reader: &mut Reader<R>,
     fields: &mut StringRecord,
-    sources: &F,
+    sources: &mut F,
+    progress: &ImportProgress<'_>,
     number: u64,
     output: &mut O,
 ) -> Result<Step, Io>
     ensures steps { (list : Option (List ℕ)) (rows : List (List (List ℕ))) → HasRead R.remaining list rows reader.old
         → spec.StepIs R.remaining (S.shown shelves.old) (S.shown shelves.new)
-        (F.known sources.now) key.now list rows reader.new number
+        (F.history sources.old) (F.history sources.new) key.now list rows reader.new number
         (O.contents output.old) (O.contents output.new) result }
     ensures fails { FailsWith (O.writes output.old).failed (O.writes output.new).failed result }
     ensures flushed { (O.writes output.old).unflushed ≡ [] → OnOk result ((O.writes output.new).unflushed ≡ []) }
@@ -156,7 +161,7 @@ fn import_next<S: Shelves, R: Read, F: Sources, O: Tell>(
     let Some(row) = row_of(fields) else {
         return Ok(Step::Over(Closing::BadRow));
     };
-    let outcome = import_row(alloc, shelves, key, &row, sources);
+    let outcome = import_row(alloc, shelves, key, &row, sources, progress);
     match print_outcome(number, outcome, output) {
         Ok(()) => Ok(Step::Row(outcome.accepts())),
         Err(fault) => Err(fault),
@@ -182,13 +187,17 @@ fn import_row<S: Shelves, F: Sources>(
     shelves: &mut S,
     key: &str,
     row: &ImportRow,
-    sources: &F,
+    sources: &mut F,
+    progress: &ImportProgress<'_>,
 ) -> RowOutcome
     ensures { spec.DoesRow (S.shown shelves.old) (S.shown shelves.new)
-        (F.known sources.now) key.now (line_of_row row.now) result }
+        (F.history sources.old) (F.history sources.new) key.now (line_of_row row.now) result }
 {
     match body_of(alloc, row, sources) {
-        Ok(body) => RowOutcome::Answered(publish_row(alloc, shelves, key, row, body)),
+        Ok(body) => {
+            progress.body_read(&body);
+            RowOutcome::Answered(publish_row(alloc, shelves, key, row, body))
+        }
         Err(SourceFault::NoFile) => RowOutcome::NoFile,
         Err(SourceFault::Memory) => RowOutcome::Answered(Fixed::Unavailable),
     }
@@ -226,18 +235,30 @@ fn time_of(time: &str) -> Option<&str>
 
 /// Returns the files of a row. If its path or its version is invalid, they are not read, because the row is answered
 /// 404 anyway. `NoFile` if a file can't be read, and `Memory` if memory runs out.
-fn body_of<F: Sources>(alloc: Global, row: &ImportRow, sources: &F) -> Result<Body, SourceFault>
-    ensures { IsBodyOf (F.known sources.now) (line_of_row row.now) result }
+#[tactic(auto, using(crate::proofs::SourceLemmas::files_of_row))]
+fn body_of<F: Sources>(alloc: Global, row: &ImportRow, sources: &mut F) -> Result<Body, SourceFault>
+    ensures { Adds (F.history sources.old) (F.history sources.new) (IsBodyOf (line_of_row row.now) result) }
 {
-    if path_of(alloc, row.path)?.is_none() || version_of(alloc, row.version)?.is_none() {
+    if !is_readable(alloc, row)? {
         return Ok(Body {
             gomod: Bytes::new(Vec::new(alloc)),
             zip: Bytes::new(Vec::new(alloc)),
         });
     }
-    let gomod = sources.bytes(row.gomod, MAX_GOMOD as u64)?;
-    let zip = sources.bytes(row.zip, MAX_ZIP as u64)?;
-    Ok(Body { gomod, zip })
+    let files = Files {
+        gomod: row.gomod,
+        zip: row.zip,
+    };
+    read_files(sources, &files)
+}
+
+/// Whether the path and the version of a row are valid. Fails only if memory runs out.
+fn is_readable(alloc: Global, row: &ImportRow) -> Result<bool, AllocError>
+    ensures { IfOk result (λ is. is ≡ is_readable (line_of_row row.now)) }
+{
+    let path = path_of(alloc, row.path)?;
+    let version = version_of(alloc, row.version)?;
+    Ok(both(path.is_some(), version.is_some()))
 }
 
 /// Prints the line that ends the import, if one does, and returns how it ended. `Io::Write` if the line can't be

@@ -10,15 +10,13 @@
 //! | `inventory` | prints what a shelf sees | [`report`], [`inventory`] |
 //! | `catalog` | prints what a shelf sees, each version as a line of JSON | [`report`] |
 //! | `requires` | prints what a version requires | [`report`], [`requirements`] |
-//! | `key-list`, `shelf-list` | prints a line for each key, or for each shelf | [`report`] |
+//! | a list, such as `key-list` | prints its lines | [`report`] |
 //! | `answer` | answers the requests of a reader from a store, or from shelves in memory | [`answer`], [`memory`] |
-//! | `serve` | prints where it listens, answers each connection's message, and obeys orders between them | [`serve`] |
-//! | with `--control`; `stop` | sends an order to `serve`, and ends by its outcome | [`order`], `sent_order` |
-//! | `copy` | orders `serve` to make a copy, and waits for it | [`copy`] |
-//! | `key-list`, `shelf-list` with `--control` | asks a running `serve` for the list, and prints it | [`listing`] |
-//! | `catalog` with `--control` | prints the catalog of a running `serve`, once it came whole | [`served_catalog`] |
-//! | `ping` | asks a running `serve` for its health, and prints the line | [`ping`] |
-//! | `copy`, `import` | show on a terminal how far they are | [`progress`], [`copy_progress`], `import_progress` |
+//! | `serve` | prints where it listens, answers a message on each connection, and carries out orders | [`serve`] |
+//! | with `--control`; `stop` | sends `serve` an order, and ends as it replies | [`remote`], `order`, `sent_order` |
+//! | `copy` | orders `serve` to make a copy, and waits for it | [`remote`], `copy` |
+//! | `publish`, `import` | read files, and note each that they read | [`sources`], [`front`], [`memory_files`] |
+//! | `copy`, `import` | show on a terminal how far they are | [`progress`], [`copy_progress`], [`import_progress`] |
 //!
 //! If the output of a command fails, because a call to write or to flush failed, a beginning of its text is printed, or
 //! all of it, and it ends with `Io`.
@@ -30,34 +28,34 @@
 
 pub mod action;
 pub mod answer;
-pub mod copy;
+mod copy;
 pub mod copy_progress;
 pub mod exit;
 pub mod files;
+pub mod front;
 pub mod import;
 pub mod import_file;
 pub mod import_line;
 pub mod import_list;
-mod import_progress;
+pub mod import_progress;
 pub mod inventory;
 mod inventory_text;
 pub mod laws;
 pub mod ledger;
-pub mod listing;
 pub mod memory;
+pub mod memory_files;
 pub mod moment;
 pub mod new_key;
-pub mod order;
-pub mod ping;
+mod order;
 mod printing;
 pub mod progress;
 pub mod publish;
 pub mod random_bytes;
 pub mod refusal;
 pub mod registry;
+pub mod remote;
 pub mod report;
 pub mod requirements;
 mod sent_order;
 pub mod serve;
-pub mod served_catalog;
 pub mod sources;

@@ -1,38 +1,40 @@
 //! The clock of the system, as a calendar.
 ghost use Rattle.std.specs.Prelude.{◌≡◌, []};
 
-use crate::ledger::Ledger;
 use control::WallClock;
 use jiff::Timestamp;
 use modver::{TimeText, read_time};
 use std::rt::HostRuntime;
+use store_files::record::Record;
 
 /// The clock of the system.
 #[derive(Drop)]
 pub struct SystemWallClock<'a> {
     rt: &'a HostRuntime,
-    noted: Ledger,
+    noted: Record<Option<TimeText>>,
 }
 
 impl<'a> SystemWallClock<'a> {
-    /// Returns the clock of the system, which has shown no time so far.
+    /// Returns the clock of the system, which was not read so far.
     pub fn new(rt: &'a HostRuntime) -> SystemWallClock<'a>
         ensures { ⟦<SystemWallClock<'a> as WallClock>⟧.shown result ≡ [] }
     {
         SystemWallClock {
             rt,
-            noted: Ledger::new(),
+            noted: Record::new(),
         }
     }
 }
 
 impl<'a> WallClock for SystemWallClock<'a> {
-    ghost shown = { λ c. c.noted.entries };
+    ghost use Rattle.std.specs.Prelude.{map};
+
+    ghost shown = { λ c. map (λ noted. noted.1) c.noted.deeds };
 
     fn time_now(&mut self) -> Option<TimeText> {
-        let time = system_time(self.rt)?;
-        self.noted.note(time.as_str().as_bytes());
-        Some(time)
+        let time = system_time(self.rt);
+        self.noted.note(b"", &time);
+        time
     }
 }
 

@@ -4,13 +4,14 @@ ghost use Rattle.network.specs.declared.servers.Link.{Link};
 ghost use Rattle.commands.specs.Connection.{IsAll};
 ghost use Rattle.commands.specs.Ending.{Registers};
 ghost use Rattle.commands.specs.NewKey as spec;
+ghost use Rattle.commands.specs.Order.{OrdersAt};
 ghost use Rattle.commands.specs.Printed.{HasFailed};
 
-use crate::order::order_at;
 use crate::printing::print_both;
 use crate::random_bytes::{RandomBytes, SystemRandomBytes};
 use crate::refusal::CommandRefusal;
 use crate::registry::register;
+use crate::remote::order_at;
 use histories::{Hear, Tell};
 use keyring::made::key_of;
 use network::servers::Servers;
@@ -56,7 +57,8 @@ pub fn order_new_at<R: Hear, W: Tell, V: Servers<R, W>, O: Tell>(
     output: &mut O,
 ) -> Result<(), CommandRefusal>
     ensures { spec.OrdersNew
-        (λ link passed. IsAll (R.account link.reader) (W.contents link.writer) (W.writes link.writer).failed passed)
+        (λ link passed. IsAll (R.account link.reader) (R.reads link.reader)
+        (W.contents link.writer) (W.writes link.writer).failed passed)
         path.now (V.history servers.old) (V.history servers.new) shelf.entry right
         (O.contents output.old) (O.contents output.new) result }
 {
@@ -86,15 +88,15 @@ pub fn order_new<B: RandomBytes, R: Hear, W: Tell, V: Servers<R, W>, O: Tell>(
     output: &mut O,
 ) -> Result<(), CommandRefusal>
     ensures orders { spec.OrdersDrawn
-        (λ (link : Link R W) passed. IsAll
-        (R.account link.reader) (W.contents link.writer) (W.writes link.writer).failed passed)
+        (λ (link : Link R W) passed. IsAll (R.account link.reader) (R.reads link.reader)
+        (W.contents link.writer) (W.writes link.writer).failed passed)
         path.now (V.history servers.old) (V.history servers.new) (B.drawn random.old) (B.drawn random.new)
         shelf.entry right (O.contents output.old) (O.contents output.new) result }
     // It ends with `Io` only if there are no random bytes, they make no key, a call of the output failed, or an order
     // ended so.
     ensures cause { spec.HasCause result (spec.HasNoKeyOrOrder
-        (λ (link : Link R W) passed. IsAll
-        (R.account link.reader) (W.contents link.writer) (W.writes link.writer).failed passed)
+        (λ (link : Link R W) passed. IsAll (R.account link.reader) (R.reads link.reader)
+        (W.contents link.writer) (W.writes link.writer).failed passed)
         path.now (B.drawn random.old) (B.drawn random.new) (O.writes output.old) (O.writes output.new)) }
     // What was printed is flushed.
     ensures flushed { OnOk result ((O.writes output.new).unflushed ≡ []) }
@@ -147,14 +149,14 @@ fn order_key<R: Hear, W: Tell, V: Servers<R, W>, O: Tell>(
     key: &str,
     output: &mut O,
 ) -> Result<(), CommandRefusal>
-    ensures orders { spec.AddsKey (spec.OrdersAt
-        (λ (link : Link R W) passed. IsAll
-        (R.account link.reader) (W.contents link.writer) (W.writes link.writer).failed passed)
+    ensures orders { spec.AddsKey (OrdersAt
+        (λ (link : Link R W) passed. IsAll (R.account link.reader) (R.reads link.reader)
+        (W.contents link.writer) (W.writes link.writer).failed passed)
         path.now) shelf.entry right key.entry (V.history servers.old) (V.history servers.new)
         (O.contents output.old) (O.contents output.new) result }
-    ensures cause { spec.HasCause result (spec.FailsOr (spec.EndsWithIo (spec.OrdersAt
-        (λ (link : Link R W) passed. IsAll
-        (R.account link.reader) (W.contents link.writer) (W.writes link.writer).failed passed)
+    ensures cause { spec.HasCause result (spec.FailsOr (spec.EndsWithIo (OrdersAt
+        (λ (link : Link R W) passed. IsAll (R.account link.reader) (R.reads link.reader)
+        (W.contents link.writer) (W.writes link.writer).failed passed)
         path.now)) (O.writes output.old) (O.writes output.new)) }
     ensures flushed { OnOk result ((O.writes output.new).unflushed ≡ []) }
 {

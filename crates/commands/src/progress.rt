@@ -35,8 +35,8 @@ impl Progress {
         scaled(self.bytes, 1_000, millis_of(passed))
     }
 
-    /// Returns how many seconds the rest takes if it goes on as it went, a begun one counted whole. None if nothing is
-    /// done yet, or it is not known how many there are.
+    /// Returns how many seconds the rest takes at the rate so far, rounded up. None if nothing is done yet, or it is
+    /// not known how many there are.
     pub fn left(&self, passed: Duration) -> Option<u64> {
         if self.all == 0 {
             return None;
@@ -221,7 +221,7 @@ impl<'a, C: Clock, W: Write + Copy> ProgressLine<'a, C, W> {
         }
     }
 
-    /// Takes the line away, and leaves the cursor where it began.
+    /// Erases the line, and leaves the cursor where it began.
     pub fn clear(&self) {
         let width = self.width.get();
         if width == 0 {

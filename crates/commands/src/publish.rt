@@ -5,10 +5,11 @@ ghost use Rattle.machine.specs.Machine.{request_reply, after_request};
 ghost use Rattle.world.specs.Store.{Does};
 ghost use Rattle.commands.specs.Printed.{FailsEarlyOrByOutput, HasFailed, PrintsText};
 ghost use Rattle.commands.specs.Publish as spec;
+ghost use Rattle.commands.specs.Sources.{Adds, ReadsBoth};
 
 use crate::printing::print_both;
 use crate::refusal::CommandRefusal;
-use crate::sources::{SourceFault, Sources};
+use crate::sources::{SourceFault, Sources, read_file};
 use engine::Io;
 use engine::page::fixed_of;
 use histories::Tell;
@@ -42,18 +43,19 @@ pub struct Files<'a> {
 }
 
 /// Reads two files of a source, publishes them and prints the outcome. It returns whether the version now has these
-/// files. If memory runs out while it reads, it does nothing on the store and the outcome is the 503. `Io` if a file
-/// can't be read, and then it does nothing, or if the output fails: then a beginning of the outcome's line is printed,
-/// or all of it.
+/// files. It reads no other file. If memory runs out while it reads, it does nothing on the store and the outcome is
+/// the 503. `Io` if a file can't be read, and then it does nothing, or if the output fails: then a beginning of the
+/// outcome's line is printed, or all of it.
 pub fn publish<S: Shelves, F: Sources, O: Tell>(
     alloc: Global,
     shelves: &mut S,
     words: &Words,
-    sources: &F,
+    sources: &mut F,
     files: &Files,
     output: &mut O,
 ) -> Result<bool, CommandRefusal>
-    ensures publishes { spec.PublishesFiles (F.known sources.now) files.now S.shown shelves.old shelves.new
+    ensures publishes { spec.PublishesFiles files.now (F.history sources.old) (F.history sources.new)
+        S.shown shelves.old shelves.new
         (spec.asked_by words.now) (O.contents output.old) (O.contents output.new) result }
     // It fails only if a call of the output failed, or before it did anything, because a file can't be read.
     ensures cause { FailsEarlyOrByOutput shelves.old shelves.new (O.contents output.old) (O.contents output.new)
@@ -89,11 +91,13 @@ fn publish_read<S: Shelves, O: Tell>(
 
 /// Returns the go.mod and the zip, or why one of them can't be read.
 /// It stops at the first failure: if memory runs out for the go.mod, it does not read the zip.
-fn read_files<F: Sources>(sources: &F, files: &Files) -> Result<Body, SourceFault>
-    ensures { spec.AreRead (F.known sources.now) files.now result }
+#[tactic(auto, using(crate::proofs::SourceLemmas::two_files))]
+pub(crate) fn read_files<F: Sources>(sources: &mut F, files: &Files) -> Result<Body, SourceFault>
+    ensures { Adds (F.history sources.old) (F.history sources.new)
+        (ReadsBoth files.now.gomod.now files.now.zip.now result) }
 {
-    let gomod = sources.bytes(files.gomod, MAX_GOMOD as u64)?;
-    let zip = sources.bytes(files.zip, MAX_ZIP as u64)?;
+    let gomod = read_file(sources, files.gomod, MAX_GOMOD as u64)?;
+    let zip = read_file(sources, files.zip, MAX_ZIP as u64)?;
     Ok(Body { gomod, zip })
 }
 

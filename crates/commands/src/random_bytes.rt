@@ -9,10 +9,10 @@ use std::io;
 use std::random::RandomSource;
 use std::rt::HostRuntime;
 
-/// How many random bytes are drawn at once. Of so many, practically always enough give a letter of a key.
+/// How many random bytes are drawn at once. Practically always, enough of them give a letter of a key.
 pub const RANDOM_BYTES: usize = 64;
 
-/// What gives random bytes, and keeps account of what it gave.
+/// A source of random bytes, which records what it gave.
 pub trait RandomBytes {
     ghost use Rattle.commands.specs.RandomBytes.{Draws, Drawn};
 
@@ -34,7 +34,7 @@ pub struct SystemRandomBytes<'a> {
 
 impl<'a> SystemRandomBytes<'a> {
     /// Returns the randomness of the system, of which nothing was drawn so far.
-    pub(crate) fn new(rt: &'a HostRuntime) -> SystemRandomBytes<'a>
+    pub fn new(rt: &'a HostRuntime) -> SystemRandomBytes<'a>
         ensures { ⟦<SystemRandomBytes<'a> as RandomBytes>⟧.drawn result ≡ no_draws }
     {
         SystemRandomBytes {

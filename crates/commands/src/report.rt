@@ -1,4 +1,4 @@
-//! What is read of a store, printed.
+//! Printing what a command reads from a store.
 ghost use Rattle.std.specs.Prelude.{◌≡◌, [], IfErr, OnOk, Ok};
 ghost use Rattle.commands.specs.Printed.{FailsByOutput, HasCause, HasFailed};
 ghost use Rattle.commands.specs.Report as spec;
@@ -8,10 +8,10 @@ use crate::printing::print_one;
 use crate::refusal::CommandRefusal;
 use crate::requirements::requirements;
 use catalog::PrintError;
+use control::read_list;
 use histories::Tell;
 use keyring::Keyring;
-use keyring::key_list::list_keys;
-use keyring::shelf_list::list_shelves;
+use orders::Listing;
 use outline::outlines::Outlines;
 use std::alloc::Global;
 use world::bytes::Bytes;
@@ -83,40 +83,22 @@ pub fn print_requirements<S: Shelves, O: Tell>(
     print(requirements_ending(told), output)
 }
 
-/// Prints a line for each key, in byte order, and returns true: the shelf, what the key may do, its fingerprint and its
-/// SHA-256. `Device` or `Memory` if the store meets a fault: then nothing is printed. `Io` if the output fails: then a
-/// beginning of the lines is printed, or all of them.
-pub fn print_keys<S: Keyring, O: Tell>(
+/// Prints a list, in byte order, and returns true. `Device` or `Memory` if the store meets a fault: then nothing is
+/// printed. `Io` if the output fails: then a beginning of the lines is printed, or all of them.
+pub fn print_list<S: Keyring, O: Tell>(
     alloc: Global,
     shelves: &mut S,
+    listing: Listing,
     output: &mut O,
 ) -> Result<bool, CommandRefusal>
-    ensures prints { spec.PrintsKeys (S.shown shelves.old) (S.shown shelves.new)
+    ensures prints { spec.PrintsList (S.shown shelves.old) (S.shown shelves.new) listing
         (O.contents output.old) (O.contents output.new) result }
     // It ends with `Io` only if a call of the output failed.
     ensures cause { FailsByOutput (O.writes output.old) (O.writes output.new) result }
     // What was printed is flushed.
     ensures flushed { OnOk result ((O.writes output.new).unflushed ≡ []) }
 {
-    let told = list_keys(alloc, shelves);
-    print(list_ending(told), output)
-}
-
-/// Prints a line for each shelf, in byte order, and returns true: its name, what kind of shelf it is, and the group of
-/// a team that has one. Fails as `print_keys` does.
-pub fn print_shelves<S: Keyring, O: Tell>(
-    alloc: Global,
-    shelves: &mut S,
-    output: &mut O,
-) -> Result<bool, CommandRefusal>
-    ensures prints { spec.PrintsShelves (S.shown shelves.old) (S.shown shelves.new)
-        (O.contents output.old) (O.contents output.new) result }
-    // It ends with `Io` only if a call of the output failed.
-    ensures cause { FailsByOutput (O.writes output.old) (O.writes output.new) result }
-    // What was printed is flushed.
-    ensures flushed { OnOk result ((O.writes output.new).unflushed ≡ []) }
-{
-    let told = list_shelves(alloc, shelves);
+    let told = read_list(alloc, shelves, listing);
     print(list_ending(told), output)
 }
 

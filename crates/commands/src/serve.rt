@@ -26,9 +26,9 @@ use std::time::Clock;
 
 /// Lets peers in, prints the line of where, and serves the connections that come in: the store goes through at most as
 /// many requests as there are connections. If a socket `control` is named, it is made first, and the orders of
-/// operators who connect to it are carried out between them, copies by `copies`, and do not count; a ping is told the
+/// operators who connect to it are carried out between them, copies by `copies`, and do not count; a ping reports the
 /// versions that `copies` counts, and when the server began: the time that `calendar` shows before the socket is made.
-/// `copied` shows when a copy was made. What happens is then told on `errors`, in lines without a key; if that fails,
+/// `copied` shows when a copy was made. Notices, which have no key, are then written to `errors`; if that fails,
 /// nothing else changes. At the end nobody is let in any more, and the name of the socket is gone.
 ///
 /// `Io` if the entrance or the socket can't be opened, the clock can't be read for the start time, the output fails, or
@@ -122,7 +122,7 @@ fn answer_peers<C: Clock, S: Keyring, P: Peer + Drop, Q, N: Entrances<P, Q>, O: 
     Ok(())
 }
 
-/// Serves the connections of peers, and the operators of a socket, which is made first and taken away at the end.
+/// Serves the connections of peers, and the operators of a socket, which is made first and removed at the end.
 fn serve_operators<
     C: Clock,
     D: WallClock + Drop,
@@ -233,8 +233,8 @@ fn serve_callers<
     Ok(())
 }
 
-/// Serves the callers who come in, and tells before that what was opened and whether all of the room is kept, and after
-/// it that it ended.
+/// Serves the callers who come in. Before that it writes notices of what was opened, and of the reserve if it lacks
+/// room, and after it one of the end.
 fn serve_told<
     C: Clock,
     D: WallClock + Drop,
@@ -281,7 +281,7 @@ fn serve_told<
     tell(ended(alloc, copies.served()), errors);
 }
 
-/// Tells if not all of the room that is kept on the disk for orders is there.
+/// Writes a notice if not all of the reserve, the room on the disk for orders, is there.
 fn tell_room<E: Tell>(alloc: Global, has_room: bool, errors: &mut E)
     ensures { WritesNotices (E.contents errors.old) (E.contents errors.new) }
 {
@@ -320,7 +320,7 @@ fn announce<O: Tell>(bound: ListenOn, output: &mut O) -> Result<(), Io>
     }
 }
 
-/// Prints the line that tells the port.
+/// Prints the line with the port.
 fn print_port<O: Tell>(port: u16, output: &mut O) -> Result<(), Io>
     ensures prints { PrintsText (O.contents output.old) (O.contents output.new) (port_line port) result }
     ensures flushed { OnOk result ((O.writes output.new).unflushed ≡ []) }

@@ -1,13 +1,15 @@
-//! Sources of the files of a publish and of an import.
-ghost use Rattle.std.specs.Prelude.{ℕ, ◌≡◌, ◌<◌, ◌^◌, ◌+◌, take, OnOk, OnErr, IfOk, option_copied};
-ghost use Rattle.std.specs.FinMap as map;
+//! Sources of the files that a command reads, with a history of what was read.
+ghost use Rattle.std.specs.Prelude.{◌≡◌, ◌<◌, ◌^◌, []};
+ghost use Rattle.commands.specs.Sources as spec;
 ghost use Rattle.commands.specs.declared.sources.SourceFault.TheVariants.{Memory};
 
-use crate::files::{FileFault, read_file};
-use std::alloc::{AllocError, Global};
-use std::collections::BTreeMap;
-use std::marker::Model;
+use crate::front::{Front, ReadEnd, hear_front};
+use histories::{Hear, Hearing};
+use std::alloc::AllocError;
+use std::fs::File;
+use std::io::{self, ErrorKind};
 use std::rt::HostRuntime;
+use store_files::record::Record;
 use world::bytes::Bytes;
 
 /// Why a source gives no bytes for a file name.
@@ -27,115 +29,116 @@ impl From<AllocError> for SourceFault {
     }
 }
 
-/// A source of files, which are read for a publish or for the rows of a list.
-pub trait Sources {
-    ghost use Rattle.std.specs.Prelude.{ℕ, List, Option, ◌<◌, ◌^◌};
-    ghost use Rattle.commands.specs.Sources.{IsRead};
-
-    /// The file of a name, or that there is no such file, if that is known.
-    ghost known: { Self → List ℕ → Option (Option (List ℕ)) };
-
-    /// Returns the bytes of a file, at most `most` and one more, so that the caller sees that a text is too long.
-    /// `NoFile` if there is no such file or it can't be read, and `Memory` if memory runs out.
-    fn bytes(&self, name: &str, most: u64) -> Result<Bytes, SourceFault>
-        requires { most < 2 ^ 63 }
-        ensures { IsRead most (known self.now name.now) result };
-
-    /// Hears that the row of this number was done. No clause depends on it.
-    fn row_done(&self, _number: u64) {}
+/// What was done to a file.
+#[derive(Drop)]
+pub enum FileDeed<R> {
+    /// It was opened, and this reader read it: to its end, or as far as a limit or the memory let it.
+    Read(R),
+    /// It was opened, and a read by this reader failed.
+    Failed(R),
+    /// The system did not open it.
+    Refused,
+    /// It was not opened, because memory ran out.
+    Unfetched,
 }
 
-/// The files of the system, whose bytes are not known.
-#[derive(Clone, Copy, Drop)]
+/// A source of files, which notes each file that it reads. Code over it that has no handle of the system reads no file
+/// but what the history has.
+pub trait Sources {
+    ghost use Rattle.std.specs.Prelude.{◌<◌, ◌^◌, List};
+    ghost use Rattle.commands.specs.Sources.{Adds, FileDone, ReadsFront};
+
+    /// What was read so far, the oldest first.
+    ghost history: { Self → List FileDone };
+
+    /// Returns the first bytes of a file, at most `most` and one more, so that the caller sees that a text is too long,
+    /// and how reading them ended. `NoFile` if there is no such file or it can't be opened, and `Memory` if memory runs
+    /// out for that.
+    fn front(&mut self, name: &str, most: u64) -> Result<Front, SourceFault>
+        requires { most < 2 ^ 63 }
+        ensures { Adds (history self.old) (history self.new) (ReadsFront most name.now result) };
+}
+
+/// Returns the bytes of a file, at most `most` and one more. `NoFile` if there is no such file or it can't be read, and
+/// `Memory` if memory runs out.
+#[tactic(auto, using(crate::proofs::SourceLemmas::file_reads))]
+pub fn read_file<F: Sources>(sources: &mut F, name: &str, most: u64) -> Result<Bytes, SourceFault>
+    requires { most < 2 ^ 63 }
+    ensures { spec.Adds (F.history sources.old) (F.history sources.new) (spec.ReadsFile most name.now result) }
+{
+    let front = sources.front(name, most)?;
+    match front.end {
+        ReadEnd::Whole | ReadEnd::Full => Ok(front.bytes),
+        ReadEnd::Broken(fault) => Err(fault),
+    }
+}
+
+/// The files of the system. That `front` opens the file whose name it notes is read and not proved.
+#[derive(Drop)]
 pub struct SystemFiles<'a> {
-    pub rt: &'a HostRuntime,
+    rt: &'a HostRuntime,
+    noted: Record<FileDeed<Hearing<File>>>,
+}
+
+impl<'a> SystemFiles<'a> {
+    /// Returns the files of the system, of which none was read.
+    pub fn new(rt: &'a HostRuntime) -> SystemFiles<'a>
+        ensures { ⟦<SystemFiles<'a> as Sources>⟧.history result ≡ [] }
+    {
+        SystemFiles {
+            rt,
+            noted: Record::new(),
+        }
+    }
 }
 
 impl<'a> Sources for SystemFiles<'a> {
-    ghost use Rattle.std.specs.Prelude.{None};
+    ghost use Rattle.commands.specs.Sources.{all_by};
 
-    ghost known = { λ files name. None };
+    ghost history = { λ s. all_by ⟦<Hearing<File> as Hear>⟧.account s.noted.deeds };
 
-    fn bytes(&self, name: &str, most: u64) -> Result<Bytes, SourceFault> {
-        match read_file(self.rt, name, most) {
-            Ok(bytes) => Ok(bytes),
-            Err(FileFault::Io) => Err(SourceFault::NoFile),
-            Err(FileFault::Memory) => Err(SourceFault::Memory),
+    fn front(&mut self, name: &str, most: u64) -> Result<Front, SourceFault> {
+        match File::open(self.rt, name) {
+            Ok(file) => {
+                let mut reader = Hearing::new(file);
+                let front = hear_front(self.rt.alloc(), &mut reader, most);
+                self.noted
+                    .note(name.as_bytes(), &deed_of(front.end, reader));
+                Ok(front)
+            }
+            Err(error) => {
+                let fault = fault_of(&error);
+                self.noted.note(name.as_bytes(), &unopened(fault));
+                Err(fault)
+            }
         }
     }
 }
 
-/// Files in memory, by their names.
-#[derive(Drop)]
-pub struct FilesInMemory {
-    alloc: Global,
-    files: BTreeMap<String, Bytes>,
-}
-
-impl Model for FilesInMemory {
-    ghost use Rattle.std.specs.Prelude.{ℕ, List};
-    ghost use Rattle.std.specs.FinMap as map;
-    ghost use Rattle.std.specs.Coded.{coded_list, coded_ℕ};
-    ghost use Rattle.world.specs.World.{text_cmp};
-    ghost use Rattle.world.specs.FinMaps.{by_text};
-
-    ghost Value = { map.FinMap text_cmp (List ℕ) };
-
-    ghost coded = { map.code (coded_list coded_ℕ) (coded_list coded_ℕ) };
-
-    ghost view = { λ m. by_text m.files.entries };
-}
-
-impl FilesInMemory {
-    /// Returns a source without files. It takes no memory.
-    pub fn new(alloc: Global) -> FilesInMemory
-        ensures { result ≡ map.empty }
-    {
-        FilesInMemory {
-            alloc,
-            files: BTreeMap::new(alloc),
-        }
-    }
-
-    /// Adds a file, in place of one with the same name. If memory runs out, it fails and the files stay as they were.
-    pub fn insert(&mut self, name: &str, bytes: &[u8]) -> Result<(), AllocError>
-        ensures ok { OnOk result (self.new ≡ map.insert self.old name.now bytes.now) }
-        ensures err { OnErr result (self.new ≡ self.old) }
-    {
-        let name = String::from_str(self.alloc, name)?;
-        let bytes = Bytes::copy_of(self.alloc, bytes)?;
-        self.files.insert(name, bytes)?;
-        Ok(())
-    }
-
-    /// Returns the bytes of a file, or None if there is no such file.
-    fn get(&self, name: &str) -> Option<&Bytes>
-        ensures { option_copied result ≡ map.get self.now name.now }
-    {
-        self.files.get(name)
-    }
-}
-
-impl Sources for FilesInMemory {
-    ghost use Rattle.commands.specs.Sources.{known_in};
-
-    ghost known = { known_in };
-
-    fn bytes(&self, name: &str, most: u64) -> Result<Bytes, SourceFault> {
-        match self.get(name) {
-            None => Err(SourceFault::NoFile),
-            Some(bytes) => Ok(front_of(self.alloc, bytes.as_slice(), most)?),
-        }
-    }
-}
-
-/// Returns a copy of the first bytes, at most `most` and one more. Fails only if memory runs out.
-fn front_of(alloc: Global, bytes: &[u8], most: u64) -> Result<Bytes, AllocError>
-    requires { most < 2 ^ 63 }
-    ensures { IfOk result (λ front. front ≡ take (most + 1) bytes.now) }
+/// Returns the deed of a file that was opened and read, by how that ended.
+pub(crate) fn deed_of<R: Drop>(end: ReadEnd, reader: R) -> FileDeed<R>
+    ensures { result ≡ spec.deed_of end reader }
 {
-    if (bytes.len() as u64) <= most {
-        return Bytes::copy_of(alloc, bytes);
+    match end {
+        ReadEnd::Broken(SourceFault::NoFile) => FileDeed::Failed(reader),
+        _ => FileDeed::Read(reader),
     }
-    Bytes::copy_of(alloc, &bytes[..most as usize + 1])
+}
+
+/// Returns the deed of a file that was not opened.
+pub(crate) fn unopened<R>(fault: SourceFault) -> FileDeed<R>
+    ensures { result ≡ spec.unopened fault }
+{
+    match fault {
+        SourceFault::NoFile => FileDeed::Refused,
+        SourceFault::Memory => FileDeed::Unfetched,
+    }
+}
+
+/// Returns why the system did not open a file.
+fn fault_of(error: &io::Error) -> SourceFault {
+    match error.kind() {
+        ErrorKind::OutOfMemory => SourceFault::Memory,
+        _ => SourceFault::NoFile,
+    }
 }

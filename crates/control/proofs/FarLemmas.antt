@@ -13,6 +13,7 @@ use Rattle.control.specs.Metrics.{TellsKept}
 use Rattle.control.specs.Health.{IsPinged}
 use Rattle.control.specs.Pinging.{TellsHowFar, TellsPing}
 use Rattle.control.specs.Serving.{ObeysMeanwhile}
+use Rattle.control.specs.Traces.{WritesTrace}
 use Rattle.control.specs.Visits.{ObeysOne}
 use Rattle.socket.specs.declared.callers.Caller.{Caller}
 use Rattle.socket.specs.declared.callers.Caller.TheVariants.{Operator}
@@ -44,13 +45,17 @@ module _ {O : Type 0} (heeded : O → Account × Reads) (told : O → Option (Li
 
   -- an operator was obeyed while a copy is made, with a tally that is that of the moment, and ended
   pub obeys_meanwhile : {P : Type 0} (far : Option CopyProgress) (tally : Tally) (operator gone : O) (stops : Bool)
-      (door end : Door (Caller P O)) (p q : Progress) (s t : S)
-      → (o : Obeyed tally operator gone stops s t) → IfOk o.audience.told (TellsHowFar far) → tally ≡ p.tally
+      (door end : Door (Caller P O)) (p q : Progress) (errors errors_new : Option (List ℕ) × Writes) (s t : S)
+      → (o : Obeyed tally operator gone stops s t) → IfOk o.audience.told (TellsHowFar far)
+      → WritesTrace o.audience.heard o.audience.told errors errors_new → tally ≡ p.tally
       → Ends door end (Operator gone) → q.tally ≡ p.tally → q.left ≡ p.left → q.taken ≡ p.taken + 1 → q.stops ≡ (p.stops || stops)
-      → ObeysMeanwhile heeded told shown made counted operator far door end p q s t
-  obeys_meanwhile far tally operator gone stops door end p q s t o tells same ended tally_q left taken ends =
-      let now : (x : Obeyed p.tally operator gone stops s t) × IfOk x.audience.told (TellsHowFar far) =
-      subst (λ u. (x : Obeyed u operator gone stops s t) × IfOk x.audience.told (TellsHowFar far)) same (o, tells) in
+      → ObeysMeanwhile heeded told shown made counted operator far door end p q errors errors_new s t
+  obeys_meanwhile far tally operator gone stops door end p q errors errors_new s t o tells trace same ended tally_q left
+      taken ends =
+      let now : (x : Obeyed p.tally operator gone stops s t) × IfOk x.audience.told (TellsHowFar far)
+      × WritesTrace x.audience.heard x.audience.told errors errors_new =
+      subst (λ u. (x : Obeyed u operator gone stops s t) × IfOk x.audience.told (TellsHowFar far)
+      × WritesTrace x.audience.heard x.audience.told errors errors_new) same (o, tells, trace) in
       record {
         stops = stops;
         gone = gone;
@@ -61,4 +66,5 @@ module _ {O : Type 0} (heeded : O → Account × Reads) (told : O → Option (Li
         taken = taken;
         ends = ends;
         tells = now.1;
+        trace = now.2;
       }

@@ -1,8 +1,8 @@
 -- Hearing an operator's line.
-use Rattle.std.proofs.Common.{◌≡◌, ◌≢◌, ◌∙◌, ◌++◌, ◌∷◌, ℕ, List, [], Option, Result, Ok, Err, IfOk, MatchResult}
+use Rattle.std.proofs.Common.{◌≡◌, ◌≢◌, ◌∙◌, ◌++◌, ◌∷◌, ℕ, List, [], Option, None, Result, Ok, Err, IfOk, MatchResult}
 use Rattle.std.proofs.Common.{ap, append_assoc, inl, inr, refl, subst, sym}
 use Rattle.std.proofs.KnownBytes.{Appends-trans}
-use Rattle.std.specs.Io.KnownBytes.{Appends, Keeps}
+use Rattle.std.specs.Io.KnownBytes.{Appends}
 use Rattle.histories.specs.Account.{Account}
 use Rattle.world.specs.Store.{Shown}
 use Rattle.world.specs.declared.registry.StoreFault.{StoreFault}
@@ -10,7 +10,9 @@ use Rattle.engine.specs.declared.fault.Io.{Io}
 use Rattle.engine.specs.declared.fault.Io.TheVariants as io
 use Rattle.control.specs.Copying.{Making, OfKey, GoesThroughSteps}
 use Rattle.control.specs.Hearing.{Heard, Made, NoMemory, IsHeard, IsHeardIn, Handles, Hears, Obeys, WritesSome}
-use Rattle.control.specs.Hearing.{told_heard}
+use Rattle.control.specs.Hearing.{ended_for, told_heard}
+use Rattle.control.specs.Noted.{IsAbout, Noted}
+use Rattle.control.specs.Notices as notice
 use Rattle.orders.specs.Order.{IsLineOf, Catalog}
 use Rattle.control.specs.Line.{ReadsLine}
 use Rattle.control.specs.Outcome.{outcome_of_catalog}
@@ -35,12 +37,12 @@ module _ (made : Making → Type 0) (pinged : Result Health StoreFault → Type 
   was_heard got reads heard from = (got, reads, from)
 
   -- the line that was read
-  pub hears_line : (got printed : List ℕ) (told : ControlReply) → ReadsLine u u' got
-      → Handles made pinged idle meanwhile old new got printed told
-      → Hears made pinged idle meanwhile old new u u' printed told
-  hears_line got printed told reads heeds = record {
+  pub hears_line : (got printed : List ℕ) (told : ControlReply) (said : Result ControlReply Io) (noted : Option Noted)
+      → ReadsLine u u' got → Handles made pinged idle meanwhile old new got printed told noted
+      → Hears made pinged idle meanwhile old new u u' printed told said noted
+  hears_line got printed told said noted reads heeds = record {
     heard = heeds.heard;
-    from = was_heard got reads heeds.heard heeds.from;
+    from = (was_heard got reads heeds.heard heeds.from.0, heeds.from.1 said);
     prints = heeds.prints;
     tells = heeds.tells;
     through = heeds.through;
@@ -50,13 +52,14 @@ module _ (made : Making → Type 0) (pinged : Result Health StoreFault → Type 
 
   -- the catalog that it asks for
   pub hears_catalog : (got key printed : List ℕ) (told : Result (Unit {0}) CatalogRefusal) (outcome : Outcome)
+      (said : Result ControlReply Io) (noted : Option Noted)
       → outcome ≡ outcome_of_catalog told → ReadsLine u u' got → IsLineOf got (Catalog key)
       → meanwhile (OfKey key printed told)
-      → made (OfKey key printed told)
-      → Hears made pinged idle meanwhile old new u u' printed (spoken.Outcome outcome)
-  hears_catalog got key printed told outcome is reads asks through came = record {
+      → made (OfKey key printed told) → IsAbout (notice.Catalogued key (ended_for said told)) noted
+      → Hears made pinged idle meanwhile old new u u' printed (spoken.Outcome outcome) said noted
+  hears_catalog got key printed told outcome said noted is reads asks through came notes = record {
     heard = Made (OfKey key printed told);
-    from = (got, reads, asks);
+    from = ((got, reads, asks), notes);
     prints = refl;
     tells = ap spoken.Outcome is;
     through = through;
@@ -65,11 +68,11 @@ module _ (made : Making → Type 0) (pinged : Result Health StoreFault → Type 
   }
 
   -- where memory ran out for the line, nothing was done
-  pub hears_no_memory : idle → GoesThroughSteps old new []
-      → Hears made pinged idle meanwhile old new u u' [] (told_heard NoMemory)
-  hears_no_memory still through = record {
+  pub hears_no_memory : (said : Result ControlReply Io) → idle → GoesThroughSteps old new []
+      → Hears made pinged idle meanwhile old new u u' [] (told_heard NoMemory) said None
+  hears_no_memory said still through = record {
     heard = NoMemory;
-    from = tt;
+    from = (tt, refl);
     prints = refl;
     tells = refl;
     through = (still, through);
@@ -88,10 +91,11 @@ module _ (made : Making → Type 0) (pinged : Result Health StoreFault → Type 
   behind w v w' printed text first (inr appends) = inr (Appends-trans w v w' printed text first appends)
 
   -- nothing was told behind what was printed, since the output failed
-  pub obeys_cut : (w v : Option (List ℕ)) (printed : List ℕ) (outcome : Outcome) → Appends w v printed
-      → Hears made pinged idle meanwhile old new u u' printed (spoken.Outcome outcome)
-      → Obeys made pinged idle meanwhile old new u u' w v (Err io.Write)
-  obeys_cut w v printed outcome appends hears = (
+  pub obeys_cut : (w v : Option (List ℕ)) (printed : List ℕ) (outcome : Outcome) (noted : Option Noted)
+      → Appends w v printed
+      → Hears made pinged idle meanwhile old new u u' printed (spoken.Outcome outcome) (Err io.Write) noted
+      → Obeys made pinged idle meanwhile old new u u' w v (Err io.Write) noted
+  obeys_cut w v printed outcome noted appends hears = (
     printed,
     spoken.Outcome outcome,
     hears,
@@ -100,21 +104,18 @@ module _ (made : Making → Type 0) (pinged : Result Health StoreFault → Type 
 
   module _ (w v w' : Option (List ℕ)) (printed : List ℕ) (first : Appends w v printed) where
     -- behind what was printed it was told, or a write or the flush failed
-    pub obeys_told : (told : ControlReply) (result : Result ControlReply Io)
-        → Hears made pinged idle meanwhile old new u u' printed told
+    pub obeys_told : (told : ControlReply) (result : Result ControlReply Io) (noted : Option Noted)
+        → Hears made pinged idle meanwhile old new u u' printed told result noted
         → IfOk result (λ said. said ≡ told)
         → MatchResult result (λ _. Appends v w' (bytes_told told))
         (λ e. (e ≡ io.Write) × WritesSome v w' (bytes_told told))
-        → Obeys made pinged idle meanwhile old new u u' w w' result
-    obeys_told told (Ok said) hears same appends =
-        subst (λ t. Obeys made pinged idle meanwhile old new u u' w w' (Ok t)) (sym same)
-        (printed, hears, Appends-trans w v w' printed (bytes_told told) first appends)
-    obeys_told told (Err io.Write) hears same (is, some) =
+        → Obeys made pinged idle meanwhile old new u u' w w' result noted
+    obeys_told told (Ok said) noted hears same appends =
+        subst (λ t. Obeys made pinged idle meanwhile old new u u' w w' (Ok t) noted) (sym same) (
+          printed,
+          subst (λ t. Hears made pinged idle meanwhile old new u u' printed told (Ok t) noted) same hears,
+          Appends-trans w v w' printed (bytes_told told) first appends,
+        )
+    obeys_told told (Err io.Write) noted hears same (is, some) =
         (printed, told, hears, behind w v w' printed (bytes_told told) first some)
-    obeys_told told (Err io.Read) hears same (wrong, some) = cc
-
-  module _ (w w' : Option (List ℕ)) where
-    pub obeys_unread : (e : Io) → e ≡ io.Read → idle → GoesThroughSteps old new [] → Keeps w w'
-        → Obeys made pinged idle meanwhile old new u u' w w' (Err e)
-    obeys_unread e is still through keeps =
-        subst (λ x. Obeys made pinged idle meanwhile old new u u' w w' (Err x)) (sym is) (still, through, keeps)
+    obeys_told told (Err io.Read) noted hears same (wrong, some) = cc

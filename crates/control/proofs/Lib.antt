@@ -1,9 +1,9 @@
 pub mod LineLemmas
-pub mod SendingLemmas
+pub mod FaultLemmas
+pub mod ReplyLemmas
 pub mod CrashLemmas
 pub mod TaskLemmas
 pub mod HearingLemmas
-pub mod AskingLemmas
 pub mod PaceLemmas
 pub mod PingLemmas
 pub mod ListingLemmas
@@ -11,7 +11,9 @@ pub mod NamingLemmas
 pub mod StepLemmas
 pub mod TallyLemmas
 pub mod PlainLemmas
+pub mod NotedLemmas
 pub mod NoticeLemmas
+pub mod TraceLemmas
 pub mod ShownLemmas
 pub mod ServeLemmas
 pub mod CallsLemmas

@@ -1,5 +1,5 @@
 -- Revoking the key that has a fingerprint.
-use Rattle.std.proofs.Common.{◌≡◌, ℕ, List, [], ◌∷◌, true, false, Some, None, Result, Ok, Err, refl}
+use Rattle.std.proofs.Common.{◌≡◌, ℕ, List, [], ◌∷◌, true, false, Option, Some, None, Result, Ok, Err, refl}
 use Rattle.std.specs.Borrow.{Bor}
 use Rattle.keyring.specs.Named.{keys_in}
 use Rattle.keyring.specs.Revoke.{only_with}
@@ -10,6 +10,8 @@ use Rattle.world.specs.declared.registry.RegistryReply.TheVariants.{NoKey}
 use Rattle.world.specs.declared.registry.StoreFault.{StoreFault}
 use Rattle.control.specs.Naming.{NamesOne, NamesNone, ReadError, RevokesNamed}
 use Rattle.control.specs.RegistryCommand.{event_of, outcome_in}
+use Rattle.control.specs.Noted.{IsAbout, Noted}
+use Rattle.control.specs.Notices as notice
 use Rattle.control.specs.Outcome.{outcome_of}
 use Rattle.control.specs.Tasks.{Ordered}
 use Rattle.orders.specs.declared.command.RegistryCommand.TheVariants.{KeyRevoke}
@@ -20,34 +22,39 @@ use Rattle.control.proofs.TaskLemmas.{tasks_more, tasks_ordered, tasks_read}
 module _ (old mid new : Shown) (f : List ℕ) where
   -- one key was found, and then revoked
   pub one_named : (key : Bor (List ℕ)) (told : Result RegistryReply StoreFault) (outcome : Outcome)
+      (noted : Option Noted)
       → Reads old mid (Ok (Some key.now)) (λ w. only_with (keys_in w) f)
       → Does mid new told (λ w. outcome_in w (KeyRevoke key)) (λ w. after w (event_of (KeyRevoke key)))
-      → outcome ≡ outcome_of told → RevokesNamed old new f outcome
-  one_named key told outcome reads does tells = record {
+      → outcome ≡ outcome_of told → IsAbout (notice.Ordered (KeyRevoke key) told) noted
+      → RevokesNamed old new f outcome noted
+  one_named key told outcome noted reads does tells notes = record {
     naming = NamesOne key told;
     through = tasks_more old mid new [] true (tasks_read old mid (only_read old mid _ _ reads))
         (Ordered (KeyRevoke key) told ∷ []) false (tasks_ordered mid new (KeyRevoke key) told does);
     finds = λ h w stands. (reads.at (does.honest h) w stands).answer;
     tells = tells;
+    notes = notes;
   }
 
 module _ (old new : Shown) (f : List ℕ) where
   -- no key was found, or several
   pub none_named : Reads old new (Ok None) (λ w. only_with (keys_in w) f)
-      → RevokesNamed old new f (outcome_of (Ok NoKey))
+      → RevokesNamed old new f (outcome_of (Ok NoKey)) None
   none_named reads = record {
     naming = NamesNone;
     through = tasks_read old new (only_read old new _ _ reads);
     finds = λ h w stands. (reads.at h w stands).answer;
     tells = refl;
+    notes = refl;
   }
 
   -- the look met a fault
   pub unread_named : (fault : StoreFault) → Reads old new (Err fault) (λ w. only_with (keys_in w) f)
-      → RevokesNamed old new f (outcome_of (Err fault))
+      → RevokesNamed old new f (outcome_of (Err fault)) None
   unread_named fault reads = record {
     naming = ReadError fault;
     through = tasks_read old new (only_read old new _ _ reads);
     finds = tt;
     tells = refl;
+    notes = refl;
   }

@@ -2,6 +2,7 @@
 use Rattle.std.proofs.Common.{◌≡◌, ◌≢◌, ℕ, nat_eq, Bool, true, false, IsTrue, not, List, [], ◌∷◌, ◌++◌, All, refl}
 use Rattle.std.proofs.Common.{sym}
 use Rattle.std.proofs.Common.{ap, ◌∙◌, subst, Option, None, Some, Result, Ok, Err, inl, inr, append_assoc, append-nil}
+use Rattle.std.proofs.Common.{arith}
 use Rattle.std.proofs.KnownBytes.{Appends-kept, Appends-nil, Appends-trans}
 use Rattle.std.proofs.lemmas.Bool.{false≢true, and_parts, eq-eqb}
 use Rattle.std.proofs.lemmas.List.Elements.{All-append, All-cons, All-head, All-nil, All-tail}
@@ -10,12 +11,16 @@ use Rattle.std.specs.List.{list_all}
 use Rattle.std.specs.Io.KnownBytes.{Appends, Keeps}
 use mathlib.Core.HLevel.{⊥_prop}
 use mathlib.Core.Logic.{∥∥₁_elim}
+use Rattle.histories.specs.Calls.{CallsFlush}
+use Rattle.histories.specs.Calls as calls
+use Rattle.engine.specs.Causes.{FailsWith}
 use Rattle.engine.specs.Written.{Writes}
 use Rattle.engine.specs.declared.fault.Io.{Io}
 use Rattle.keyring.specs.KeyList.{fingerprint}
 use Rattle.modver.specs.SemanticVersion.{version_text}
 use Rattle.control.specs.Notices.{Answer, Occasion, Opened, Uncounted, Ordered, Copied, Catalogued, Answered, Reserved, Met}
-use Rattle.control.specs.Notices.{Ended, EndsLine, IsNotice, IsPiece, NoneIsRefusal, WritesNotices, behind_team, errand_words}
+use Rattle.control.specs.Notices.{Ended, Lost, EndsLine, IsNotice, IsPiece, NoneIsRefusal, WritesLines, WritesNotices}
+use Rattle.control.specs.Notices.{AreAny, behind_team, errand_words}
 use Rattle.control.specs.Notices.{has_group, has_shelf, joined, line_of, name_if, plain, right_words, shown_words}
 use Rattle.control.specs.Outcome.{outcome_of, outcome_of_catalog, outcome_of_copy}
 use Rattle.orders.specs.Outcome as outcome
@@ -84,6 +89,92 @@ notice_written a b line (Err e) is writes =
 pub notices_kept : (a b c : Option (List ℕ)) → WritesNotices a b → Keeps b c → WritesNotices a c
 notices_kept a b c written kept =
     record { text = written.text; lines = written.lines; writes = Appends-kept a b c written.text written.writes kept }
+
+-- ---- writing whole lines
+
+-- a line was written and flushed, or a call failed
+pub line_written : {F : Type 0} (line : List ℕ) (a b c : Option (List ℕ)) (u v w : calls.Writes)
+    (wrote : Result (Unit {0}) Io) (flushed : Result (Unit {0}) F) → IsNotice line → Writes a b line wrote
+    → FailsWith u.failed v.failed wrote → Keeps b c → CallsFlush v w flushed
+    → WritesLines (λ lines. lines ≡ line ∷ []) (a, u) (c, w)
+line_written line a b c u v w (Ok done) (Ok settled) is writes fails kept flush = record {
+  no_fewer = omega (arith, fails, flush.1);
+  whole = inr (record {
+    lines = line ∷ [];
+    each = All-cons IsNotice line [] is (All-nil IsNotice);
+    so = refl;
+    writes = Appends-kept a b c (line ++ []) (subst (Appends a b) (sym (append-nil line)) writes) kept;
+    flushed = λ before. flush.0;
+  });
+}
+line_written line a b c u v w (Ok done) (Err e) is writes fails kept flush = record {
+  no_fewer = omega (arith, fails, flush.1);
+  whole = inl (omega (arith, fails, flush.1));
+}
+line_written line a b c u v w (Err why) (Ok settled) is writes fails kept flush = record {
+  no_fewer = omega (arith, fails, flush.1);
+  whole = inl (omega (arith, fails, flush.1));
+}
+line_written line a b c u v w (Err why) (Err e) is writes fails kept flush = record {
+  no_fewer = omega (arith, fails, flush.1);
+  whole = inl (omega (arith, fails, flush.1));
+}
+
+-- nothing was written
+pub none_written : (are : List (List ℕ) → Type 0) (a : Option (List ℕ) × calls.Writes) → are [] → WritesLines are a a
+none_written are a so = record {
+  no_fewer = omega arith;
+  whole = inr (record {
+    lines = [];
+    each = All-nil IsNotice;
+    so = so;
+    writes = Appends-nil a.0;
+    flushed = λ before. before;
+  });
+}
+
+-- lines, and then others
+pub written_then : (one two both : List (List ℕ) → Type 0) (a b c : Option (List ℕ) × calls.Writes)
+    → ((xs ys : List (List ℕ)) → one xs → two ys → both (xs ++ ys)) → WritesLines one a b → WritesLines two b c
+    → WritesLines both a c
+written_then one two both a b c join first next = record {
+  no_fewer = omega (arith, first.no_fewer, next.no_fewer);
+  whole = elim first.whole [
+    | inl failed ↦ inl (omega (arith, failed, next.no_fewer))
+    | inr xs ↦ elim next.whole [
+      | inl failed ↦ inl (omega (arith, first.no_fewer, failed))
+      | inr ys ↦ inr (record {
+        lines = xs.lines ++ ys.lines;
+        each = All-append IsNotice xs.lines ys.lines xs.each ys.each;
+        so = join xs.lines ys.lines xs.so ys.so;
+        writes = subst (Appends a.0 c.0) (sym (joined_both xs.lines ys.lines))
+            (Appends-trans a.0 b.0 c.0 (joined xs.lines) (joined ys.lines) xs.writes ys.writes);
+        flushed = λ before. ys.flushed (xs.flushed before);
+      })
+    ]
+  ];
+}
+
+-- what is so of the lines may be said otherwise
+pub written_so : (one two : List (List ℕ) → Type 0) (a b : Option (List ℕ) × calls.Writes)
+    → ((lines : List (List ℕ)) → one lines → two lines) → WritesLines one a b → WritesLines two a b
+written_so one two a b other first = record {
+  no_fewer = first.no_fewer;
+  whole = elim first.whole [
+    | inl failed ↦ inl failed
+    | inr xs ↦ inr (record {
+      lines = xs.lines;
+      each = xs.each;
+      so = other xs.lines xs.so;
+      writes = xs.writes;
+      flushed = xs.flushed;
+    })
+  ];
+}
+
+pub any_written : {are : List (List ℕ) → Type 0} (a b : Option (List ℕ) × calls.Writes) → WritesLines are a b
+    → WritesLines AreAny a b
+any_written {are} a b written = written_so are AreAny a b (λ lines so. tt) written
 
 -- ---- no line begins with a `g`
 
@@ -242,6 +333,8 @@ calm_about (Met asked met) =
     calm_line 102 (codes "ault: ") _ refl refl refl
     (calm_told (errand_words asked) (case.Failed met) (no_end_errand asked))
 calm_about (Ended file) = calm_line 101 (codes "nded: ") _ refl refl refl (calm_end file)
+calm_about Lost =
+    calm_line 108 (codes "ost: memory") (codes "\n") refl refl refl (λ never. absurd (false≢true never), tt)
 
 -- ---- all pieces
 

@@ -118,12 +118,11 @@ obeys_unsaid heeded told made pinged idle meanwhile old new operator gone stops 
   lists = next.lists;
 }
 
--- that changes nothing of what was told
-pub unsaid_told : {O : Type 0} (heeded : O → Account × Reads) (told : O → Option (List ℕ) × Writes)
+-- that changes nothing of what was heard and told
+pub unsaid_audience : {O : Type 0} (heeded : O → Account × Reads) (told : O → Option (List ℕ) × Writes)
     (made : Making → Type 0) (pinged : Result Health StoreFault → Type 0)
     (idle : Type 0) (meanwhile : Making → Type 0) (old new : Shown) (operator gone : O) (stops : Bool)
     → (next : ObeysOne heeded told made pinged idle meanwhile operator gone stops old new)
-    → (obeys_unsaid heeded told made pinged idle meanwhile old new operator gone stops next).audience.told
-    ≡ next.audience.told
+    → (obeys_unsaid heeded told made pinged idle meanwhile old new operator gone stops next).audience ≡ next.audience
 unfolding obeys_unsaid
-unsaid_told heeded told made pinged idle meanwhile old new operator gone stops next = refl
+unsaid_audience heeded told made pinged idle meanwhile old new operator gone stops next = refl

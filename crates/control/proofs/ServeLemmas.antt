@@ -21,8 +21,11 @@ use Rattle.control.specs.Hearing.{Heard, Carried, Made, Listed, Pinged, Named, S
 use Rattle.control.specs.Hearing.{Obeys, WritesSome, bytes_heard, printed_heard, told_heard}
 use Rattle.control.specs.Line.{most_tries}
 use Rattle.control.specs.Naming.{NamesOne, NamesNone, ReadError}
+use Rattle.control.specs.Noted.{BeginsWith, Noted, NotesTold}
+use Rattle.control.specs.Notices.{WritesLines}
 use Rattle.control.specs.ControlReply.{bytes_told}
 use Rattle.control.specs.Tasks.{Asked, messages, GoesOn}
+use Rattle.control.specs.Traces.{WritesTrace}
 use Rattle.control.specs.Visits.{Call, OfPeer, OfOperator, Untaken, steps_if}
 use Rattle.control.specs.Visits.{steps_with, peers, AnswersOne, ObeysOne}
 use Rattle.control.specs.Visits.{ReadsEach}
@@ -34,6 +37,7 @@ use Rattle.orders.specs.declared.outcome.Outcome.TheVariants.{Stopping}
 use Rattle.control.proofs.StepLemmas.{messages_both}
 use Rattle.control.proofs.TallyLemmas.{since_told}
 use Rattle.control.proofs.TaskLemmas.{tasks_asked}
+use Rattle.control.proofs.TraceLemmas.{trace_of}
 
 -- ---- one connection
 
@@ -74,19 +78,19 @@ module _ {O : Type 0} (heeded : O → Account × Reads) (told : O → Option (Li
     (made : Making → Type 0)
     (pinged : Result Health StoreFault → Type 0) (idle : Type 0) (meanwhile : Making → Type 0) (old new : Shown) where
   -- an operator was obeyed, where a failure has its cause
-  pub obeyed_one : (operator after : O) (stops : Bool) (result : Result ControlReply Io)
+  pub obeyed_one : (operator after : O) (stops : Bool) (result : Result ControlReply Io) (noted : Option Noted)
       → Obeys made pinged idle meanwhile old new (heeded operator).0 (heeded after).0 (told operator).0
-      (told after).0 result
+      (told after).0 result noted
       → IfErr result (IsCausedIn most_tries (heeded operator).1 (heeded after).1 (told operator).1 (told after).1)
       → (IsTrue stops ↔ (result ≡ Ok (spoken.Outcome Stopping)))
       → ObeysOne heeded told made pinged idle meanwhile operator after stops old new
-  obeyed_one operator after stops (Ok outcome) obeys cause stopped = record {
+  obeyed_one operator after stops (Ok outcome) noted obeys cause stopped = record {
     audience = record { before = operator; after = after; heard = Some obeys.1.heard; told = Ok outcome };
     begins = refl;
     leaves = refl;
     there = (
       obeys.1.tells,
-      obeys.1.from,
+      obeys.1.from.0,
       written_so (Appends (told operator).0 (told after).0) obeys.0 outcome obeys.1.heard obeys.1.prints obeys.1.tells
           obeys.2,
     );
@@ -95,7 +99,7 @@ module _ {O : Type 0} (heeded : O → Account × Reads) (told : O → Option (Li
     came = obeys.1.came;
     lists = obeys.1.lists;
   }
-  obeyed_one operator after stops (Err io.Read) obeys cause stopped = record {
+  obeyed_one operator after stops (Err io.Read) noted obeys cause stopped = record {
     audience = record { before = operator; after = after; heard = None; told = Err io.Read };
     begins = refl;
     leaves = refl;
@@ -105,13 +109,13 @@ module _ {O : Type 0} (heeded : O → Account × Reads) (told : O → Option (Li
     came = tt;
     lists = tt;
   }
-  obeyed_one operator after stops (Err io.Write) obeys cause stopped = record {
+  obeyed_one operator after stops (Err io.Write) noted obeys cause stopped = record {
     audience = record { before = operator; after = after; heard = Some obeys.2.heard; told = Err io.Write };
     begins = refl;
     leaves = refl;
     there = (
       refl,
-      obeys.2.from,
+      obeys.2.from.0,
       written_so (WritesSome (told operator).0 (told after).0) obeys.0 obeys.1 obeys.2.heard obeys.2.prints
           obeys.2.tells obeys.3,
       cause,
@@ -123,16 +127,34 @@ module _ {O : Type 0} (heeded : O → Account × Reads) (told : O → Option (Li
   }
 
   -- this was told
-  pub obeyed_told : (operator after : O) (stops : Bool) (result : Result ControlReply Io)
+  pub obeyed_told : (operator after : O) (stops : Bool) (result : Result ControlReply Io) (noted : Option Noted)
       → (obeys : Obeys made pinged idle meanwhile old new (heeded operator).0 (heeded after).0 (told operator).0
-      (told after).0 result)
+      (told after).0 result noted)
       → (cause : IfErr result (IsCausedIn most_tries (heeded operator).1 (heeded after).1 (told operator).1
       (told after).1)) → (stopped : IsTrue stops ↔ (result ≡ Ok (spoken.Outcome Stopping)))
-      → (obeyed_one operator after stops result obeys cause stopped).audience.told ≡ result
+      → (obeyed_one operator after stops result noted obeys cause stopped).audience.told ≡ result
   unfolding obeyed_one
-  obeyed_told operator after stops (Ok outcome) obeys cause stopped = refl
-  obeyed_told operator after stops (Err io.Read) obeys cause stopped = refl
-  obeyed_told operator after stops (Err io.Write) obeys cause stopped = refl
+  obeyed_told operator after stops (Ok outcome) noted obeys cause stopped = refl
+  obeyed_told operator after stops (Err io.Read) noted obeys cause stopped = refl
+  obeyed_told operator after stops (Err io.Write) noted obeys cause stopped = refl
+
+  -- the line that begins with what is noted of it is one for it
+  pub obeyed_trace : (operator after : O) (stops : Bool) (result : Result ControlReply Io) (done noted : Option Noted)
+      → (obeys : Obeys made pinged idle meanwhile old new (heeded operator).0 (heeded after).0 (told operator).0
+      (told after).0 result done)
+      → (cause : IfErr result (IsCausedIn most_tries (heeded operator).1 (heeded after).1 (told operator).1
+      (told after).1)) → (stopped : IsTrue stops ↔ (result ≡ Ok (spoken.Outcome Stopping)))
+      → (errors errors_new : Option (List ℕ) × Writes) → NotesTold done result noted
+      → WritesLines (BeginsWith noted) errors errors_new
+      → WritesTrace (obeyed_one operator after stops result done obeys cause stopped).audience.heard
+      (obeyed_one operator after stops result done obeys cause stopped).audience.told errors errors_new
+  unfolding obeyed_one
+  obeyed_trace operator after stops (Ok outcome) done noted obeys cause stopped errors errors_new notes written =
+      trace_of (Some obeys.1.heard) (Ok outcome) done noted errors errors_new obeys.1.from.1 notes written
+  obeyed_trace operator after stops (Err io.Read) done noted obeys cause stopped errors errors_new notes written =
+      trace_of None (Err io.Read) done noted errors errors_new obeys.3 notes written
+  obeyed_trace operator after stops (Err io.Write) done noted obeys cause stopped errors errors_new notes written =
+      trace_of (Some obeys.2.heard) (Err io.Write) done noted errors errors_new obeys.2.from.1 notes written
 
 -- a peer was answered, where a failure has its cause
 pub answered_one : {P : Type 0} (heard : P → Account × Reads) (written : P → Option (List ℕ) × Writes) (old new : Shown)

@@ -17,11 +17,13 @@ use Rattle.socket.specs.History.{Door, Ends, Takes, TakesNone}
 use Rattle.control.specs.Copying.{Making, tasks_in, has_read, AllRead, GoesThroughSteps, IsBusy, IsOnlyRead}
 use Rattle.control.specs.Health.{IsPinged, tally_of}
 use Rattle.control.specs.Hearing as hearing
+use Rattle.control.specs.Notices.{AreAny, WritesLines}
 use Rattle.control.specs.Progress.{IsOver}
 use Rattle.control.specs.Serving.{AllTold, EndsBy, Instant, ObeysMeanwhile}
 use Rattle.control.specs.Serving.{Serves, ServesMeanwhile, ServesPeer, TakesTurn}
 use Rattle.control.specs.Serving.{TakesTurns, TakesTurnsBy, tally_after}
 use Rattle.control.specs.Tasks.{GoesThroughTasks}
+use Rattle.control.specs.Traces.{HasTraces, TracesEach, WritesTrace}
 use Rattle.control.specs.Visits.{Call, OfPeer, OfOperator, Untaken, Audience, CameIf, EndsEach, Happened}
 use Rattle.control.specs.Visits.{IsCallThere, IsToldThere, ObeysOne, ReadsEach, TellsTally}
 use Rattle.control.specs.Visits.{answered_with, callers_of, connections_of, steps_if, steps_of, steps_with}
@@ -34,11 +36,12 @@ use Rattle.control.specs.declared.control_reply.ControlReply.{ControlReply}
 use Rattle.control.specs.declared.control_reply.ControlReply.TheVariants as spoken
 use Rattle.control.proofs.HappensLemmas.{happened_around, happened_none, happened_operator, happened_peer}
 use Rattle.control.proofs.HappensLemmas.{happened_then, happened_untaken}
-use Rattle.control.proofs.NoticeLemmas.{notices_more, notices_none}
+use Rattle.control.proofs.NoticeLemmas.{none_written, notices_more, notices_none}
 use Rattle.control.proofs.OrderedLemmas.{Other, ToMake, no_stopping, ok_in, only_read, or_not, ordered_if, through_told}
 use Rattle.control.proofs.ServeLemmas.{none_come, steps_first, then_come}
 use Rattle.control.proofs.StepLemmas.{no_reads, read_heard, read_then}
 use Rattle.control.proofs.TallyLemmas.{tells_tally}
+use Rattle.control.proofs.TraceLemmas.{traces_around, traces_none, traces_operator, traces_peer, traces_then}
 use Rattle.control.proofs.TaskLemmas.{tasks_none, tasks_read}
 use Rattle.control.proofs.CallsLemmas.{all_tallied, answered_append, callers_append, connections_append, ends_append}
 use Rattle.control.proofs.CallsLemmas.{goes_on, is_end, may_end, none_ends, none_through, peers_few, read_or}
@@ -53,13 +56,14 @@ module _ {P O : Type 0} (heeded : O → Account × Reads) (told : O → Option (
 
   module _ {S : Type 0} (shown : S → Shown) (made : S → S → Making → Type 0)
       (counted : S → S → ℕ → Type 0) where
-    abbrev From : Bool → Door (Caller P O) → Door (Caller P O) → Progress → Progress → S → S → Type 0
+    abbrev From : Bool → Door (Caller P O) → Door (Caller P O) → Progress → Progress → Option (List ℕ) × Writes
+        → Option (List ℕ) × Writes → S → S → Type 0
     From = Serves heeded told heard written is_new shown made counted
 
     -- nobody
-    pub serves_none : (read : Bool) (door : Door (Caller P O)) (p : Progress) (s : S)
-        → From read door door p p s s
-    serves_none read door p s = record {
+    pub serves_none : (read : Bool) (door : Door (Caller P O)) (p : Progress) (e : Option (List ℕ) × Writes) (s : S)
+        → From read door door p p e e s s
+    serves_none read door p e s = record {
       calls = [];
       came = none_come door.0;
       happened = happened_none door.1;
@@ -72,12 +76,13 @@ module _ {P O : Type 0} (heeded : O → Account × Reads) (told : O → Option (
       left = omega arith;
       taken = omega arith;
       ends = none_ends P O p.stops;
+      traces = traces_none P O e;
     }
 
     -- nobody, and the store was read
-    pub serves_read : (door : Door (Caller P O)) (p : Progress) (s t : S) → IsOnlyRead (shown s) (shown t)
-        → From true door door p p s t
-    serves_read door p s t read = record {
+    pub serves_read : (door : Door (Caller P O)) (p : Progress) (e : Option (List ℕ) × Writes) (s t : S)
+        → IsOnlyRead (shown s) (shown t) → From true door door p p e e s t
+    serves_read door p e s t read = record {
       calls = [];
       came = none_come door.0;
       happened = happened_none door.1;
@@ -90,12 +95,14 @@ module _ {P O : Type 0} (heeded : O → Account × Reads) (told : O → Option (
       left = omega arith;
       taken = omega arith;
       ends = none_ends P O p.stops;
+      traces = traces_none P O e;
     }
 
     -- callers, and then others
-    pub serves_more : (read : Bool) (door mid end : Door (Caller P O)) (p q r : Progress) (s t u : S)
-        → From read door mid p q s t → From read mid end q r t u → From read door end p r s u
-    serves_more read door mid end p q r s t u one two =
+    pub serves_more : (read : Bool) (door mid end : Door (Caller P O)) (p q r : Progress)
+        (e f g : Option (List ℕ) × Writes) (s t u : S)
+        → From read door mid p q e f s t → From read mid end q r f g t u → From read door end p r e g s u
+    serves_more read door mid end p q r e f g s t u one two =
         let xs = one.calls in
         let ys = two.calls in
         record {
@@ -122,9 +129,11 @@ module _ {P O : Type 0} (heeded : O → Account × Reads) (told : O → Option (
           left = omega (arith, connections_append xs ys, one.left, two.left);
           taken = omega (arith, length-append xs ys, one.taken, two.taken);
           ends = ends_append p.stops q.stops r.stops xs ys one.ends two.ends;
+          traces = traces_then xs ys e f g one.traces two.traces;
         }
 
-    module _ (read : Bool) (door end : Door (Caller P O)) (p q : Progress) (s t : S) where
+    module _ (read : Bool) (door end : Door (Caller P O)) (p q : Progress) (e f : Option (List ℕ) × Writes)
+        (s t : S) where
       -- one caller
       serves_one : (call : Call P O) → Come door.0 end.0 (callers_of (call ∷ [])) → Happened door.1 end.1 (call ∷ [])
           → All is_new (callers_of (call ∷ [])) → IsCallThere heeded told heard written call
@@ -132,8 +141,8 @@ module _ {P O : Type 0} (heeded : O → Account × Reads) (told : O → Option (
           → ((shown t).is_honest → (w : World) → (shown s).stands w → AllRead shown made counted w (steps_of call))
           → q.tally ≡ tally_after p.tally (answered_with (call ∷ [])) → AllTold p.tally (call ∷ [])
           → p.left ≡ q.left + connections_of (call ∷ []) → q.taken ≡ p.taken + 1 → EndsBy p.stops q.stops (call ∷ [])
-          → From read door end p q s t
-      serves_one call comes happened fresh there through reads tally tallies left taken ends = record {
+          → WritesLines (HasTraces (call ∷ [])) e f → From read door end p q e f s t
+      serves_one call comes happened fresh there through reads tally tallies left taken ends traces = record {
         calls = call ∷ [];
         came = comes;
         happened = happened;
@@ -150,6 +159,7 @@ module _ {P O : Type 0} (heeded : O → Account × Reads) (told : O → Option (
         left = left;
         taken = omega (arith, taken);
         ends = ends;
+        traces = traces;
       }
 
       one_new : (caller : Caller P O) → is_new caller → All is_new (caller ∷ [])
@@ -157,9 +167,10 @@ module _ {P O : Type 0} (heeded : O → Account × Reads) (told : O → Option (
 
       -- a peer
       pub serves_peer : (mid : Door (Caller P O)) (peer : P) → Takes door mid (Peer peer) → is_new (Peer peer) → p.stops ≡ false
-          → ServesPeer heard written peer mid end p q (shown s) (shown t) → From read door end p q s t
+          → ServesPeer heard written peer mid end p q (shown s) (shown t) → WritesLines AreAny e f
+          → From read door end p q e f s t
       unfolding serves_one
-      serves_peer mid peer takes fresh going next =
+      serves_peer mid peer takes fresh going next written_lines =
           let first = next.answers.answers.first in
           let visit : Visit P = record { before = peer; after = next.gone; first = first } in
           serves_one (OfPeer visit next.answered)
@@ -170,16 +181,18 @@ module _ {P O : Type 0} (heeded : O → Account × Reads) (told : O → Option (
           (λ h w stands. no_reads shown made counted w (exchanges_of first))
           next.tally tt next.left next.taken
           (goes_on p.stops q.stops going next.stops (OfPeer visit next.answered) (λ never. never))
+          (traces_peer {P = P} {O = O} (OfPeer visit next.answered) e f (λ lines any. tt) written_lines)
 
       -- a connection that could not be taken
       pub serves_untaken : TakesNone door end → p.stops ≡ false → q.tally ≡ p.tally → p.left ≡ q.left + 1
-          → q.taken ≡ p.taken + 1 → q.stops ≡ p.stops → s ≡ t → From read door end p q s t
+          → q.taken ≡ p.taken + 1 → q.stops ≡ p.stops → s ≡ t → e ≡ f → From read door end p q e f s t
       unfolding serves_one
-      serves_untaken takes going tally left taken stops same =
+      serves_untaken takes going tally left taken stops same kept =
           serves_one Untaken takes.comes (happened_untaken door end takes) (All-nil is_new) tt
           (subst (λ x. GoesThroughSteps (shown s) (shown x) []) same (tasks_none (shown s)))
           (λ h w stands. tt) tally tt left taken
           (goes_on p.stops q.stops going stops Untaken (λ never. never))
+          (traces_peer {P = P} {O = O} Untaken e f (λ lines any. tt) (subst (WritesLines AreAny e) kept (none_written AreAny e tt)))
 
       -- an operator, who ordered no copy
       pub serves_operator : (mid : Door (Caller P O)) (idle : Type 0) (meanwhile : Making → Type 0)
@@ -191,10 +204,11 @@ module _ {P O : Type 0} (heeded : O → Account × Reads) (told : O → Option (
           (shown s) (shown t))
           → GoesThroughSteps (shown s) (shown t) (steps_if next.audience.heard) → Ends mid end (Operator gone)
           → q.tally ≡ p.tally → q.left ≡ p.left → q.taken ≡ p.taken + 1 → q.stops ≡ (p.stops || stops)
-          → From read door end p q s t
+          → WritesTrace next.audience.heard next.audience.told e f
+          → From read door end p q e f s t
       unfolding serves_one
       serves_operator mid idle meanwhile tally_now operator gone stops takes fresh going now next through ends tally left
-          taken is =
+          taken is trace =
           let x = next.audience in
           let takes_x = subst (λ o. Takes door mid (Operator o)) (sym next.begins) takes in
           let ends_x = subst (λ o. Ends mid end (Operator o)) (sym next.leaves) ends in
@@ -213,6 +227,7 @@ module _ {P O : Type 0} (heeded : O → Account × Reads) (told : O → Option (
           (omega (arith, left)) taken
           (may_end p.stops stops q.stops (OfOperator x) going is next.stopped.0
           (λ on stop. false≢true (sym on ∙ next.stopped.1 stop)))
+          (traces_operator P x e f trace)
 
     no_stop_told : (before after : O) (making : Making) (said : Result ControlReply Io)
         → IsToldThere heeded told before after (Some (hearing.Made making)) said
@@ -222,18 +237,20 @@ module _ {P O : Type 0} (heeded : O → Account × Reads) (told : O → Option (
     no_stop_told before after making (Err e) there is = cc
 
     -- an operator who had something made, with the callers who were served meanwhile
-    pub serves_made : (door mid last end : Door (Caller P O)) (p q r o : Progress) (s m t : S)
+    pub serves_made : (door mid last end : Door (Caller P O)) (p q r o : Progress) (e f g : Option (List ℕ) × Writes)
+        (s m t : S)
         (before after : O) (making : Making) (said : Result ControlReply Io)
         → Takes door mid (Operator before) → is_new (Operator before) → p.stops ≡ false
         → IsToldThere heeded told before after (Some (hearing.Made making)) said
         → (said ≡ Ok (spoken.Outcome Stopping) → ⊥)
-        → made s t making → From true mid last q r s m → IsOnlyRead (shown m) (shown t) → ¬ IsBusy making
+        → made s t making → From true mid last q r e f s m → IsOnlyRead (shown m) (shown t) → ¬ IsBusy making
+        → WritesTrace (Some (hearing.Made making)) said f g
         → Ends last end (Operator after)
         → q.tally ≡ p.tally → q.left ≡ p.left → q.taken ≡ p.taken + 1 → q.stops ≡ p.stops
         → o.tally ≡ r.tally → o.left ≡ r.left → o.taken ≡ r.taken → o.stops ≡ r.stops
-        → From false door end p o s t
-    serves_made door mid last end p q r o s m t before after making said takes fresh going there never came next
-        read begun closes tally left_is taken stops tally_o left_o taken_o stops_o =
+        → From false door end p o e g s t
+    serves_made door mid last end p q r o e f g s m t before after making said takes fresh going there never came next
+        read begun trace closes tally left_is taken stops tally_o left_o taken_o stops_o =
         let x : Audience O =
         record { before = before; after = after; heard = Some (hearing.Made making); told = said } in
         let call : Call P O = OfOperator x in
@@ -257,12 +274,14 @@ module _ {P O : Type 0} (heeded : O → Account × Reads) (told : O → Option (
           ends = subst (λ b. EndsBy p.stops b (call ∷ ys)) (sym stops_o)
               (ends_append p.stops q.stops r.stops (call ∷ []) ys
               (goes_on p.stops q.stops going stops call never) next.ends);
+          traces = traces_around x ys e f g next.traces trace;
         }
 
     -- ---- from the beginning to the end
 
-    module _ (since : List ℕ) (connections : ℕ) (door end : Door (Caller P O)) (p q : Progress) (s t : S)
-        (all : From false door end p q s t) (tally : p.tally ≡ tally_of since []) (left : p.left ≡ connections)
+    module _ (since : List ℕ) (connections : ℕ) (door end : Door (Caller P O)) (p q : Progress)
+        (e f : Option (List ℕ) × Writes) (s t : S)
+        (all : From false door end p q e f s t) (tally : p.tally ≡ tally_of since []) (left : p.left ≡ connections)
         (taken : p.taken ≡ 0) (stops : p.stops ≡ false) where
       pub serves_each : ReadsEach heeded told heard written shown made counted is_new door end s t since
           connections
@@ -291,6 +310,12 @@ module _ {P O : Type 0} (heeded : O → Account × Reads) (told : O → Option (
             (omega (arith, all.taken, taken)) over;
       }
 
+      -- a line was written for each order
+      pub traces_each : IsOver q.stops q.left q.taken
+          → TracesEach heeded told heard written shown made counted is_new door end s t since connections e f
+      unfolding ends_each serves_each
+      traces_each over = record { ends = ends_each over; traces = all.traces }
+
     -- ---- while a copy is made
 
     one_turn : (a b : Instant P O S) → TakesTurn heeded told heard written is_new shown made counted a b
@@ -298,8 +323,9 @@ module _ {P O : Type 0} (heeded : O → Account × Reads) (told : O → Option (
     unfolding serves_read
     one_turn a b (inl (read, same)) = subst (ServesMeanwhile heeded told heard written is_new shown made counted a)
         (sym same) (record {
-          serves = serves_read a.door a.progress a.store b.store (only_read (shown a.store) (shown b.store) read);
-          notes = notices_none a.errors;
+          serves = serves_read a.door a.progress a.errors a.store b.store
+              (only_read (shown a.store) (shown b.store) read);
+          notes = notices_none a.errors.0;
           same = refl;
         })
     one_turn a b (inr serves) = serves
@@ -314,8 +340,8 @@ module _ {P O : Type 0} (heeded : O → Account × Reads) (told : O → Option (
         let two = turns_all mid b more turns.1 in
         record {
           serves = serves_more true a.door mid.door b.door a.progress mid.progress b.progress
-              a.store mid.store b.store one.serves two.serves;
-          notes = notices_more a.errors mid.errors b.errors one.notes two.notes;
+              a.errors mid.errors b.errors a.store mid.store b.store one.serves two.serves;
+          notes = notices_more a.errors.0 mid.errors.0 b.errors.0 one.notes two.notes;
           same = two.same ∙ one.same;
         }
 
@@ -326,46 +352,49 @@ module _ {P O : Type 0} (heeded : O → Account × Reads) (told : O → Option (
     all_turns a b turns = turns_all a b turns.0 turns.1
 
     -- an operator, for whom no copy was made
-    pub serves_told : (door mid end : Door (Caller P O)) (p q : Progress) (s t : S) (operator : O)
-        (far : Option CopyProgress)
+    pub serves_told : (door mid end : Door (Caller P O)) (p q : Progress) (e f : Option (List ℕ) × Writes) (s t : S)
+        (operator : O) (far : Option CopyProgress)
         → Takes door mid (Operator operator) → is_new (Operator operator) → p.stops ≡ false
-        → ObeysMeanwhile heeded told shown made counted operator far mid end p q s t → From true door end p q s t
+        → ObeysMeanwhile heeded told shown made counted operator far mid end p q e f s t
+        → From true door end p q e f s t
     unfolding serves_operator
-    serves_told door mid end p q s t operator far takes fresh going next =
-        serves_operator true door end p q s t mid (Unit {0})
+    serves_told door mid end p q e f s t operator far takes fresh going next =
+        serves_operator true door end p q e f s t mid (Unit {0})
         (λ making. IsOnlyRead (shown s) (shown t) × IsBusy making)
         p.tally operator next.gone
         next.stops takes fresh going refl next.obeys
         (through_told (Unit {0}) (shown s) (shown t) next.obeys.audience.heard
         (ordered_if _ _ (shown s) (shown t) next.obeys.audience.heard next.obeys.through))
-        next.ended next.tally next.left next.taken next.ends
+        next.ended next.tally next.left next.taken next.ends next.trace
 
-    module _ (door mid last end : Door (Caller P O)) (p a b q : Progress) (s t : S) (idle : Type 0)
-        (meanwhile : Making → Type 0)
-        (still : idle → (last ≡ mid) × (b ≡ a))
+    module _ (door mid last end : Door (Caller P O)) (p a b q : Progress) (e f g : Option (List ℕ) × Writes) (s t : S)
+        (idle : Type 0) (meanwhile : Making → Type 0)
+        (still : idle → (last ≡ mid) × (b ≡ a) × (f ≡ e))
         (turns : (making : Making) → meanwhile making
-        → (m : S) × From true mid last a b s m × IsOnlyRead (shown m) (shown t) × ¬ IsBusy making)
+        → (m : S) × From true mid last a b e f s m × IsOnlyRead (shown m) (shown t) × ¬ IsBusy making)
         (operator gone : O) (stops : Bool) (takes : Takes door mid (Operator operator))
         (fresh : is_new (Operator operator)) (going : p.stops ≡ false)
         (next : ObeysOne heeded told (made s t)
         (IsPinged a.tally (shown s).failures (shown t).failures (counted s t)) idle meanwhile operator gone stops
-        (shown s) (shown t)) (ends : Ends last end (Operator gone))
+        (shown s) (shown t)) (trace : WritesTrace next.audience.heard next.audience.told f g)
+        (ends : Ends last end (Operator gone))
         (tally : a.tally ≡ p.tally) (left : a.left ≡ p.left) (taken : a.taken ≡ p.taken + 1) (same : a.stops ≡ p.stops)
         (tally_q : q.tally ≡ b.tally) (left_q : q.left ≡ b.left) (taken_q : q.taken ≡ b.taken)
         (stops_q : q.stops ≡ (b.stops || stops)) where
       other_served : idle → GoesThroughSteps (shown s) (shown t) (steps_if next.audience.heard)
-          → From false door end p q s t
+          → From false door end p q e g s t
       unfolding serves_operator
       other_served rests through =
           let both = still rests in
-          serves_operator false door end p q s t mid idle meanwhile a.tally operator gone stops takes fresh going tally
+          serves_operator false door end p q e g s t mid idle meanwhile a.tally operator gone stops takes fresh going tally
           next through (subst (λ d. Ends d end (Operator gone)) both.0 ends)
           (tally_q ∙ ap (λ x. x.tally) both.1 ∙ tally) (left_q ∙ ap (λ x. x.left) both.1 ∙ left)
           (taken_q ∙ ap (λ x. x.taken) both.1 ∙ taken)
           (stops_q ∙ ap (λ x. x.stops || stops) both.1 ∙ ap (λ x. x || stops) same)
+          (subst (λ x. WritesTrace next.audience.heard next.audience.told x g) both.2 trace)
 
       made_served : (making : Making)
-          → next.audience.heard ≡ Some (hearing.Made making) → meanwhile making → From false door end p q s t
+          → next.audience.heard ≡ Some (hearing.Made making) → meanwhile making → From false door end p q e g s t
       unfolding serves_made
       made_served making is done =
           let x = next.audience in
@@ -373,16 +402,17 @@ module _ {P O : Type 0} (heeded : O → Account × Reads) (told : O → Option (
           let there : IsToldThere heeded told x.before x.after (Some (hearing.Made making)) x.told =
           subst (λ h. IsToldThere heeded told x.before x.after h x.told) is next.there in
           let never = no_stop_told x.before x.after making x.told there in
-          serves_made door mid last end p a b q s went.0 t x.before x.after making x.told
+          serves_made door mid last end p a b q e f g s went.0 t x.before x.after making x.told
           (subst (λ o. Takes door mid (Operator o)) (sym next.begins) takes)
           (subst (λ o. is_new (Operator o)) (sym next.begins) fresh) going there never
           (subst (λ h. CameIf (made s t)
           (IsPinged a.tally (shown s).failures (shown t).failures (counted s t)) h) is next.came)
-          went.1 went.2 went.3 (subst (λ o. Ends last end (Operator o)) (sym next.leaves) ends) tally left taken same tally_q left_q taken_q
+          went.1 went.2 went.3 (subst (λ h. WritesTrace h x.told f g) is trace)
+          (subst (λ o. Ends last end (Operator o)) (sym next.leaves) ends) tally left taken same tally_q left_q taken_q
           (stops_q ∙ or_not b.stops stops (λ on. never (next.stopped.0 on)))
 
       -- an operator, and those who were served while a copy was made for it, if one was
-      pub obey_serves : From false door end p q s t
+      pub obey_serves : From false door end p q e g s t
       unfolding other_served made_served
       obey_serves = elim (ordered_if idle meanwhile (shown s) (shown t) next.audience.heard next.through) [
         | Other rests through ↦ other_served rests through

@@ -93,11 +93,12 @@ module _ {S T : Type 0} (shown : S → Shown) (made : S → S → Making → Typ
 
   module _ {P O : Type 0} (heeded : O → Account × Reads) (told : O → Option (List ℕ) × Writes)
       (heard : P → Account × Reads) (written : P → Option (List ℕ) × Writes) (is_new : Caller P O → Type 0)
-      (door end : Door (Caller P O)) (p q : Progress) (s t : T)
+      (door end : Door (Caller P O)) (p q : Progress) (errors errors_new : Option (List ℕ) × Writes) (s t : T)
       (all : (w : World) → (shown (inside s)).stands w → said s w)
-      (next : Serves heeded told heard written is_new Shown_too Made_too Counted_too true door end p q s t) where
+      (next : Serves heeded told heard written is_new Shown_too Made_too Counted_too true door end p q errors errors_new
+      s t) where
     -- the callers were served so
-    pub serves_unnoted : Serves heeded told heard written is_new shown made counted true door end p q
+    pub serves_unnoted : Serves heeded told heard written is_new shown made counted true door end p q errors errors_new
         (inside s) (inside t)
     unfolding goes_unnoted read_unnoted
     serves_unnoted = record {
@@ -113,6 +114,7 @@ module _ {S T : Type 0} (shown : S → Shown) (made : S → S → Making → Typ
       left = next.left;
       taken = next.taken;
       ends = next.ends;
+      traces = next.traces;
     }
 
 -- what is said at first of each world that a store stands for

@@ -1,162 +1,164 @@
--- What an operator sends, and what it gets.
-use Rattle.std.specs.Prelude.{ℕ, ◌≡◌, ◌<◌, ◌⊎◌, List, Option, Result, Ok, Err}
-use Rattle.std.specs.Io.KnownBytes.{Consumes, Appends, Keeps}
+-- What an operator sends, and what comes of it.
+use Rattle.std.specs.Prelude.{ℕ, ◌≡◌, ◌<◌, ◌≤◌, ◌+◌, ◌⊎◌, ◌++◌, Bool, true, false, IsTrue, List, [], get_or, length}
+use Rattle.std.specs.Prelude.{MatchOption, Option, Some, None, Result, Ok, Err}
+use Rattle.std.specs.Io.KnownBytes.{Appends}
 use Rattle.histories.specs.Account.{Account, Gives}
+use Rattle.histories.specs.Calls.{Reads}
+use Rattle.engine.specs.Causes.{IsUnreadable, most_reads}
 use Rattle.engine.specs.Written.{WritesBeginning}
-use Rattle.orders.specs.Order.{HasNoLine, IsLineOf, Ordered, ListOf, Ping, Stop, line_for}
-use Rattle.orders.specs.Outcome.{line_of}
-use Rattle.orders.specs.declared.listing.Listing.{Listing}
+use Rattle.world.specs.declared.registry.RegistryReply.TheVariants as registered
+use Rattle.orders.specs.Order.{HasNoLine, IsLineOf, Ordered, ListOf, Ping, Stop, Copy, Catalog, RevokeByFingerprint}
+use Rattle.orders.specs.Order.{Registry}
+use Rattle.orders.specs.Outcome.{IsNoOutcome, line_of}
+use Rattle.orders.specs.Words.{line_end}
 use Rattle.orders.specs.declared.outcome.Outcome.{Outcome}
+use Rattle.orders.specs.declared.outcome.Outcome.TheVariants as outcome
 use Rattle.orders.specs.declared.write.WriteError.{WriteError}
 use Rattle.orders.specs.declared.write.WriteError.TheVariants as unwritten
 use Rattle.control.specs.Health.{IsHealthLine}
-use Rattle.control.specs.Listing.{IsReplyOf}
-use Rattle.control.specs.ControlReply.{bytes_told}
+use Rattle.control.specs.Listing.{AreLines}
+use Rattle.control.specs.declared.client.OrderReply.{OrderReply}
+use Rattle.control.specs.declared.client.OrderReply.TheVariants as reply
 use Rattle.control.specs.declared.client.SendError.{SendError}
-use Rattle.control.specs.declared.client.SendError.TheVariants.{Words, Memory, Io}
-use Rattle.control.specs.declared.control_reply.ControlReply.{ControlReply}
-use Rattle.control.specs.declared.control_reply.ControlReply.TheVariants as spoken
+use Rattle.control.specs.declared.client.SendError.TheVariants.{Words, Memory, Io, NoReply, ReplyMemory}
+use Rattle.control.specs.declared.line.Extent.{Extent}
+use Rattle.control.specs.declared.line.Extent.TheVariants.{Line, Stream}
+use Rattle.control.specs.declared.line.ReadError.{ReadError}
+use Rattle.control.specs.declared.line.ReadError.TheVariants as unread
 
 -- why an order with no line is not sent
 abbrev pub untold_for : WriteError → SendError
 untold_for unwritten.Words = Words
 untold_for unwritten.Memory = Memory
 
--- why there is no line of the order
-abbrev pub IsUnwritten : Ordered → SendError → Type 0
-IsUnwritten o Words = HasNoLine o
-IsUnwritten o Memory = Unit {0}
-IsUnwritten o Io = ⊥
+-- why nothing is known of an order whose reply was not read
+abbrev pub untold_by : ReadError → SendError
+untold_by unread.Io = Io
+untold_by unread.Memory = ReplyMemory
 
--- the line of the outcome was read, or `Io` was returned
-abbrev pub TellsOutcome : Option (List ℕ) → Option (List ℕ) → Result Outcome SendError → Type 0
-TellsOutcome unread unread_new (Ok told) = Consumes unread unread_new (line_of told)
-TellsOutcome unread unread_new (Err e) = e ≡ Io
+-- ---- what the bytes that came tell
 
--- This line was sent, and the line of the outcome came. Or it was sent, or a beginning of it, whatever came.
-abbrev pub Sends :
-    Option (List ℕ) → Option (List ℕ) → Option (List ℕ) → Option (List ℕ) → List ℕ → Result Outcome SendError → Type 0
-Sends unread unread_new written written_new line (Ok told) =
-    Appends written written_new line × Consumes unread unread_new (line_of told)
-Sends unread unread_new written written_new line (Err why) =
-    (why ≡ Io) × (WritesBeginning written written_new line ⊎ Appends written written_new line)
+-- whether an outcome says that all was done
+abbrev pub is_done : Outcome → Bool
+is_done (outcome.RegistryReply registered.Done) = true
+is_done other = false
 
--- The line of the order was sent, and the line of the outcome came. Or nothing was sent, because no bytes are such a
--- line or memory ran out. Or the line was sent, or a beginning of it, whatever came.
-abbrev pub Asks :
-    Option (List ℕ) → Option (List ℕ) → Option (List ℕ) → Option (List ℕ) → Ordered → Result Outcome SendError → Type 0
-Asks unread unread_new written written_new o (Ok told) =
-    (sent : List ℕ) × IsLineOf sent o × Appends written written_new sent × Consumes unread unread_new (line_of told)
-Asks unread unread_new written written_new o (Err Words) = HasNoLine o × Keeps written written_new
-Asks unread unread_new written written_new o (Err Memory) = Keeps written written_new
-Asks unread unread_new written written_new o (Err Io) =
-    (sent : List ℕ) × IsLineOf sent o × (WritesBeginning written written_new sent ⊎ Appends written written_new sent)
+-- the bytes are lines, each whole, and the line of this outcome behind them
+pub record EndsBy (lines : List ℕ) (told : Outcome) (got : List ℕ) : Type 0 where
+  pub are : AreLines lines
+  pub is : got ≡ lines ++ line_of told
 
--- the line that ends the server was sent as `Sends` says
-abbrev pub AsksToStop :
-    Option (List ℕ) → Option (List ℕ) → Option (List ℕ) → Option (List ℕ) → Result Outcome SendError → Type 0
-AsksToStop unread unread_new written written_new told =
-    Sends unread unread_new written written_new (line_for Stop) told
+-- Lines that are all, with `done` behind them. Or an outcome in their place, or behind some of them if they may be cut.
+abbrev pub IsListed : Bool → OrderReply → List ℕ → Type 0
+IsListed cut (reply.Text lines) got = EndsBy lines (outcome.RegistryReply registered.Done) got
+IsListed false (reply.Outcome told) got = (is_done told ≡ false) × EndsBy [] told got
+IsListed true (reply.Outcome told) got = (is_done told ≡ false) × ((lines : List ℕ) × EndsBy lines told got)
 
--- an outcome, or the line of a health and nothing else
-abbrev pub IsTold : ControlReply → Type 0
-IsTold (spoken.Outcome outcome) = Unit {0}
-IsTold (spoken.Health line) = IsHealthLine line
-IsTold (spoken.List lines) = ⊥
+-- the line of an outcome, and nothing else
+abbrev pub IsOutcomeIn : OrderReply → List ℕ → Type 0
+IsOutcomeIn (reply.Outcome told) got = got ≡ line_of told
+IsOutcomeIn (reply.Text text) got = ⊥
 
--- the line of a health was read, or that of an outcome
-abbrev pub TellsHealth : Option (List ℕ) → Option (List ℕ) → Result ControlReply SendError → Type 0
-TellsHealth unread unread_new (Ok told) = IsTold told × Consumes unread unread_new (bytes_told told)
-TellsHealth unread unread_new (Err e) = e ≡ Io
+-- the lines of a health, or the line of an outcome
+abbrev pub IsHealthIn : OrderReply → List ℕ → Type 0
+IsHealthIn (reply.Outcome told) got = got ≡ line_of told
+IsHealthIn (reply.Text text) got = IsHealthLine text × (got ≡ text)
 
--- The line that asks for the health was sent, and a line came as `TellsHealth` says. Or it was sent, or a beginning of
--- it, and none came.
-abbrev pub AsksForHealth :
-    Option (List ℕ) → Option (List ℕ) → Option (List ℕ) → Option (List ℕ) → Result ControlReply SendError → Type 0
-AsksForHealth unread unread_new written written_new (Ok told) =
-    IsTold told × Appends written written_new (line_for Ping) × Consumes unread unread_new (bytes_told told)
-AsksForHealth unread unread_new written written_new (Err why) =
-    (why ≡ Io) × (WritesBeginning written written_new (line_for Ping) ⊎ Appends written written_new (line_for Ping))
+-- the bytes are this reply to the order
+abbrev pub IsReplyTo : Ordered → OrderReply → List ℕ → Type 0
+IsReplyTo Ping told got = IsHealthIn told got
+IsReplyTo (ListOf listing) told got = IsListed false told got
+IsReplyTo (Catalog key) told got = IsListed true told got
+IsReplyTo Stop told got = IsOutcomeIn told got
+IsReplyTo (Copy path) told got = IsOutcomeIn told got
+IsReplyTo (RevokeByFingerprint f) told got = IsOutcomeIn told got
+IsReplyTo (Registry command) told got = IsOutcomeIn told got
 
--- the bytes are a list with its last line, or the line of an outcome
-abbrev pub TellsBytes : Result (List ℕ) Outcome → List ℕ → Type 0
-TellsBytes (Ok text) got = IsReplyOf got text
-TellsBytes (Err outcome) got = got ≡ line_of outcome
+-- It is read wherever it came. Of the lines of a health nobody proves that.
+abbrev pub IsReadBack : Ordered → OrderReply → Type 0
+IsReadBack Ping (reply.Text text) = ⊥
+IsReadBack o told = Unit {0}
 
--- a whole list was read, or the line of an outcome
-abbrev pub TellsList : Option (List ℕ) → Option (List ℕ) → Result (Result (List ℕ) Outcome) SendError → Type 0
-TellsList unread unread_new (Ok told) = (got : List ℕ) × TellsBytes told got × Consumes unread unread_new got
-TellsList unread unread_new (Err e) = e ≡ Io
+-- the bytes are no reply to the order
+abbrev pub IsNone : Ordered → List ℕ → Type 0
+IsNone o got = (told : OrderReply) → IsReadBack o told → ¬ IsReplyTo o told got
 
--- The line that asks for a list was sent, and bytes came as `TellsList` says. Or it was sent, or a beginning of it, and
--- none came.
-abbrev pub AsksForList : Option (List ℕ) → Option (List ℕ) → Option (List ℕ) → Option (List ℕ) → Listing
-    → Result (Result (List ℕ) Outcome) SendError → Type 0
-AsksForList unread unread_new written written_new listing (Ok told) =
-    TellsList unread unread_new (Ok told) × Appends written written_new (line_for (ListOf listing))
-AsksForList unread unread_new written written_new listing (Err why) =
-    (why ≡ Io)
-    × (WritesBeginning written written_new (line_for (ListOf listing)) ⊎ Appends written written_new (line_for (ListOf listing)))
+-- nor are they with any bytes that may follow: none may if the stream is over
+abbrev pub IsNoReply : Ordered → Bool → List ℕ → Type 0
+IsNoReply o is_over got = (more : List ℕ) → (IsTrue is_over → more ≡ []) → IsNone o (got ++ more)
 
--- ---- by what came, which need not be known before
+-- what is read of an order's reply, and whether it has no bound
+abbrev pub extent_of : Ordered → Extent
+extent_of Ping = Stream
+extent_of (ListOf listing) = Stream
+extent_of (Catalog key) = Stream
+extent_of Stop = Line
+extent_of (Copy path) = Line
+extent_of (RevokeByFingerprint f) = Line
+extent_of (Registry command) = Line
 
--- the line of the outcome came, and nothing else
-abbrev pub HearsOutcome : Account → Account → Outcome → Type 0
-HearsOutcome came came_new told = Gives came came_new (line_of told)
+abbrev pub HasNoBound : Ordered → Type 0
+HasNoBound o = extent_of o ≡ Stream
 
--- so it was, or `Io` was returned
-abbrev pub HearsOrIo : Account → Account → Result Outcome SendError → Type 0
-HearsOrIo came came_new (Ok told) = HearsOutcome came came_new told
-HearsOrIo came came_new (Err why) = why ≡ Io
+-- what is read in bytes
+abbrev pub ReadsAs : Ordered → List ℕ → Option OrderReply → Type 0
+ReadsAs o got told = MatchOption told (IsNone o got) (λ reply. IsReplyTo o reply got)
 
--- the lines of a health or the line of an outcome came, and nothing else
-abbrev pub HearsHealth : Account → Account → ControlReply → Type 0
-HearsHealth came came_new told = IsTold told × Gives came came_new (bytes_told told)
+abbrev pub IsNoList : Bool → List ℕ → Type 0
+IsNoList cut got = (told : OrderReply) → ¬ IsListed cut told got
 
--- a whole list or the line of an outcome came, and nothing else
-abbrev pub HearsList : Account → Account → Result (List ℕ) Outcome → Type 0
-HearsList came came_new told = (got : List ℕ) × TellsBytes told got × Gives came came_new got
+abbrev pub IsNoOutcomeIn : List ℕ → Type 0
+IsNoOutcomeIn got = (told : OrderReply) → ¬ IsOutcomeIn told got
 
--- `Hears` says what came where a reply tells this.
-module _ {T : Type 0} (Hears : Account → Account → T → Type 0) (came came_new : Account)
-    (written written_new : Option (List ℕ)) (failed failed_new : ℕ) where
-  -- This line was sent, and the reply came. Or a beginning of it was sent, a write failed, and nothing was read. Or it
-  -- was sent, whatever came.
-  abbrev pub LineGets : List ℕ → Result T SendError → Type 0
-  LineGets line (Ok told) = Appends written written_new line × Hears came came_new told
-  LineGets line (Err why) =
-      (why ≡ Io) × ((WritesBeginning written written_new line × (failed < failed_new) × (came_new ≡ came))
-      ⊎ Appends written written_new line)
+-- so it is told, or why the bytes were not all read
+abbrev pub RepliesBy : Ordered → List ℕ → Result (Unit {0}) ReadError → Result OrderReply SendError → Type 0
+RepliesBy o got (Ok u) (Ok told) = IsReplyTo o told got
+RepliesBy o got (Ok u) (Err why) = (why ≡ NoReply) × IsNone o got
+RepliesBy o got (Err why) told = told ≡ Err (untold_by why)
 
-  -- So it was with the line of the order. Or nothing was sent or read, because no bytes are such a line or memory ran
-  -- out.
-  abbrev pub OrderGets : Ordered → Result T SendError → Type 0
-  OrderGets o (Ok told) =
-      (sent : List ℕ) × IsLineOf sent o × Appends written written_new sent × Hears came came_new told
-  OrderGets o (Err Words) = HasNoLine o × (written_new ≡ written) × (came_new ≡ came)
-  OrderGets o (Err Memory) = (written_new ≡ written) × (came_new ≡ came)
-  OrderGets o (Err Io) =
-      (sent : List ℕ) × IsLineOf sent o × ((WritesBeginning written written_new sent × (failed < failed_new)
-      × (came_new ≡ came)) ⊎ Appends written written_new sent)
+-- no line ends from here on, but with the last byte
+abbrev pub IsLastFrom : ℕ → List ℕ → Type 0
+IsLastFrom at text = (i : ℕ) → at ≤ i → i + 1 < length text → get_or text i 0 ≡ line_end → ⊥
 
--- this line was sent, and an outcome came of it
-abbrev pub SendsHeard : Account → Account → Option (List ℕ) → Option (List ℕ) → ℕ → ℕ → List ℕ
-    → Result Outcome SendError
-    → Type 0
-SendsHeard = LineGets HearsOutcome
+-- ---- what is sent, and what comes
 
--- so it was with the line of the order
-abbrev pub AsksHeard : Account → Account → Option (List ℕ) → Option (List ℕ) → ℕ → ℕ → Ordered
-    → Result Outcome SendError
-    → Type 0
-AsksHeard = OrderGets HearsOutcome
+module _ (written written_new : Option (List ℕ)) where
+  -- the line of the order was sent
+  abbrev pub IsAsked : Ordered → Type 0
+  IsAsked o = (sent : List ℕ) × IsLineOf sent o × Appends written written_new sent
 
--- The line of the order was sent. Or nothing was sent, because no bytes are such a line or memory ran out. Or a
--- beginning of the line was sent, and a write failed.
-abbrev pub IsSent : Option (List ℕ) → Option (List ℕ) → ℕ → ℕ → Ordered → Result (Unit {0}) SendError → Type 0
-IsSent written written_new failed failed_new o (Ok u) =
-    (sent : List ℕ) × IsLineOf sent o × Appends written written_new sent
-IsSent written written_new failed failed_new o (Err Words) = HasNoLine o × (written_new ≡ written)
-IsSent written written_new failed failed_new o (Err Memory) = written_new ≡ written
-IsSent written written_new failed failed_new o (Err Io) =
-    (sent : List ℕ) × IsLineOf sent o × WritesBeginning written written_new sent × (failed < failed_new)
+  -- a beginning of it was, and a write failed
+  abbrev pub IsCut : ℕ → ℕ → Ordered → Type 0
+  IsCut failed failed_new o =
+      (sent : List ℕ) × IsLineOf sent o × WritesBeginning written written_new sent × (failed < failed_new)
+
+  -- The line of the order was sent. Or nothing was sent, because no bytes are such a line or memory ran out. Or a
+  -- beginning of the line was sent, and a write failed.
+  abbrev pub IsSent : {T : Type 0} → ℕ → ℕ → Ordered → Result T SendError → Type 0
+  IsSent failed failed_new o (Ok room) = IsAsked o
+  IsSent failed failed_new o (Err Words) = HasNoLine o × (written_new ≡ written)
+  IsSent failed failed_new o (Err Memory) = written_new ≡ written
+  IsSent failed failed_new o (Err Io) = IsCut failed failed_new o
+  IsSent failed failed_new o (Err NoReply) = ⊥
+  IsSent failed failed_new o (Err ReplyMemory) = ⊥
+
+-- The line of the order was sent, and this reply came. Or nothing was sent or read, because no bytes are such a line or
+-- memory ran out. Or a beginning of it was sent, a write failed, and nothing was read. Or it was sent, and a read failed
+-- or all that there are began; or what came is no reply, whatever may follow; or memory ran out for a reply that has no
+-- bound.
+abbrev pub OrderGets : Account → Account → Reads → Reads → Option (List ℕ) → Option (List ℕ) → ℕ → ℕ → Ordered
+    → Result OrderReply SendError → Type 0
+OrderGets came came_new reads reads_new written written_new failed failed_new o (Ok told) =
+    IsAsked written written_new o × ((got : List ℕ) × Gives came came_new got × IsReplyTo o told got)
+OrderGets came came_new reads reads_new written written_new failed failed_new o (Err Words) =
+    HasNoLine o × (written_new ≡ written) × (came_new ≡ came)
+OrderGets came came_new reads reads_new written written_new failed failed_new o (Err Memory) =
+    (written_new ≡ written) × (came_new ≡ came)
+OrderGets came came_new reads reads_new written written_new failed failed_new o (Err Io) =
+    (IsCut written written_new failed failed_new o × (came_new ≡ came))
+    ⊎ (IsAsked written written_new o × IsUnreadable most_reads reads reads_new)
+OrderGets came came_new reads reads_new written written_new failed failed_new o (Err NoReply) =
+    IsAsked written written_new o
+    × ((got : List ℕ) × Gives came came_new got × IsNoReply o came_new.is_over got)
+OrderGets came came_new reads reads_new written written_new failed failed_new o (Err ReplyMemory) =
+    IsAsked written written_new o × HasNoBound o

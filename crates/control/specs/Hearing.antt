@@ -1,5 +1,5 @@
 -- What an operator's line orders, and the outcome that the operator gets.
-use Rattle.std.specs.Prelude.{ℕ, ◌≡◌, ◌⊎◌, ◌++◌, List, [], ◌∷◌, MatchOption, Option, Some, Result, Ok, Err}
+use Rattle.std.specs.Prelude.{ℕ, ◌≡◌, ◌⊎◌, ◌++◌, List, [], ◌∷◌, MatchOption, Option, Some, None, Result, Ok, Err}
 use Rattle.std.specs.Io.KnownBytes.{Appends, Keeps}
 use Rattle.histories.specs.Account.{Account}
 use Rattle.world.specs.Store.{Shown}
@@ -18,10 +18,14 @@ use Rattle.orders.specs.Order as orders
 use Rattle.orders.specs.Order.{IsLineOf, IsNoOrder, commanded, ordered}
 use Rattle.orders.specs.declared.order.Order.{Order}
 use Rattle.orders.specs.declared.order.Order.TheVariants as order
-use Rattle.control.specs.Naming.{Finds, Naming, named_result, named_steps}
+use Rattle.control.specs.Naming.{Finds, Naming, named_notice, named_result, named_steps}
+use Rattle.control.specs.Noted.{IsNoted, Noted}
+use Rattle.control.specs.Notices as notice
 use Rattle.control.specs.Outcome.{outcome_of, outcome_of_catalog, outcome_of_copy}
 use Rattle.control.specs.ControlReply.{bytes_told}
 use Rattle.control.specs.Tasks.{Ordered}
+use Rattle.control.specs.declared.copies.CatalogRefusal.{CatalogRefusal}
+use Rattle.control.specs.declared.copies.CatalogRefusal.TheVariants as catalog
 use Rattle.control.specs.declared.health.Health.{Health}
 use Rattle.orders.specs.declared.listing.Listing.{Listing}
 use Rattle.orders.specs.declared.command.RegistryCommand.{RegistryCommand}
@@ -100,6 +104,27 @@ steps_heard Stop = []
 steps_heard NoOrder = []
 steps_heard NoMemory = []
 
+-- how a catalog ended for an operator who was told this: the output failed if it was not told how it ended
+abbrev pub ended_for : Result ControlReply Io → Result (Unit {0}) CatalogRefusal → Result (Unit {0}) CatalogRefusal
+ended_for (Ok reply) told = told
+ended_for (Err e) told = Err catalog.Output
+
+-- what is noted of what was made for an operator who was told this
+abbrev pub making_notice : Making → Result ControlReply Io → notice.Occasion
+making_notice (ToPath path told) said = notice.Copied path told
+making_notice (OfKey key printed told) said = notice.Catalogued key (ended_for said told)
+
+-- what is noted of what was done for an operator who was told this, if something was
+abbrev pub done_notice : Heard → Result ControlReply Io → Option notice.Occasion
+done_notice (Carried command told) said = Some (notice.Ordered command told)
+done_notice (Made making) said = Some (making_notice making said)
+done_notice (Pinged told) said = None
+done_notice (Listed listing told) said = None
+done_notice (Named f naming) said = named_notice naming
+done_notice Stop said = None
+done_notice NoOrder said = None
+done_notice NoMemory said = None
+
 -- these bytes are the line of this order, or of none
 abbrev pub IsOrderIn : List ℕ → Option Order → Type 0
 IsOrderIn got o = MatchOption o (IsNoOrder got) (λ read. IsLineOf got (ordered read))
@@ -176,45 +201,40 @@ module _ (made : Making → Type 0) (pinged : Result Health StoreFault → Type 
       pub came : CameOf heard
       pub lists : ListsBy old new heard
 
-    -- what the bytes order was done, and this came of it
-    abbrev pub Handles : Shown → Shown → List ℕ → List ℕ → ControlReply → Type 0
-    Handles old new got printed told = Follows (IsHeardIn got) old new printed told
+    -- what the bytes order was done, and this came of it, and is noted, whatever the operator will be told
+    abbrev pub Handles : Shown → Shown → List ℕ → List ℕ → ControlReply → Option Noted → Type 0
+    Handles old new got printed told noted = Follows
+        (λ heard. IsHeardIn got heard × ((said : Result ControlReply Io) → IsNoted (done_notice heard said) noted))
+        old new printed told
 
-    -- A line was read, what it orders was done, and this came of it.
-    abbrev pub Hears : Shown → Shown → Account → Account → List ℕ → ControlReply → Type 0
-    Hears old new came came_new printed told = Follows (IsHeard came came_new) old new printed told
-
-    -- so it was, or a read failed, and nothing was done
-    abbrev pub HearsOrFails : Shown → Shown → Account → Account → Result ControlReply Io → Type 0
-    HearsOrFails old new came came_new (Ok told) = Hears old new came came_new [] told
-    HearsOrFails old new came came_new (Err e) = (e ≡ io.Read) × idle × GoesThroughSteps old new []
+    -- A line was read, what it orders was done, and this came of it, and is noted for an operator who was told this.
+    abbrev pub Hears : Shown → Shown → Account → Account → List ℕ → ControlReply → Result ControlReply Io
+        → Option Noted → Type 0
+    Hears old new came came_new printed told said noted = Follows
+        (λ heard. IsHeard came came_new heard × IsNoted (done_notice heard said) noted) old new printed told
 
     -- A line was read, what it orders was done, and what came of it was written; where a write or the flush failed, a
-    -- beginning of that or all of it. Or a read failed, and nothing was done, and nothing written.
-    abbrev pub Obeys :
-        Shown → Shown → Account → Account → Option (List ℕ) → Option (List ℕ) → Result ControlReply Io → Type 0
-    Obeys old new came came_new written written_new (Ok told) =
-        (printed : List ℕ) × Hears old new came came_new printed told
+    -- beginning of that or all of it. What was done is noted. Or a read failed, and nothing was done, written or noted.
+    abbrev pub Obeys : Shown → Shown → Account → Account → Option (List ℕ) → Option (List ℕ)
+        → Result ControlReply Io → Option Noted → Type 0
+    Obeys old new came came_new written written_new (Ok told) noted =
+        (printed : List ℕ) × Hears old new came came_new printed told (Ok told) noted
         × Appends written written_new (printed ++ bytes_told told)
-    Obeys old new came came_new written written_new (Err io.Read) =
-        idle × GoesThroughSteps old new [] × Keeps written written_new
-    Obeys old new came came_new written written_new (Err io.Write) =
-        (printed : List ℕ) × (told : ControlReply) × Hears old new came came_new printed told
+    Obeys old new came came_new written written_new (Err io.Read) noted =
+        idle × GoesThroughSteps old new [] × Keeps written written_new × (noted ≡ None)
+    Obeys old new came came_new written written_new (Err io.Write) noted =
+        (printed : List ℕ) × (told : ControlReply) × Hears old new came came_new printed told (Err io.Write) noted
         × WritesSome written written_new (printed ++ bytes_told told)
 
 -- So it was between two stores, by what is known of copies and counts, with the tally of the moment.
 module _ {S K : Type 0} (shown : S → Shown) (made : S → S → Making → Type 0)
     (counted : S → S → ℕ → Type 0) (meanwhile : K → K → S → S → Making → Type 0) (tally : Tally) (copies copies_new : K)
     (old new : S) where
-  abbrev pub HandlesBy : List ℕ → List ℕ → ControlReply → Type 0
+  abbrev pub HandlesBy : List ℕ → List ℕ → ControlReply → Option Noted → Type 0
   HandlesBy = Handles (made old new) (IsPinged tally (shown old).failures (shown new).failures (counted old new))
       (copies_new ≡ copies) (meanwhile copies copies_new old new) (shown old) (shown new)
 
-  abbrev pub HearsBy : Account → Account → Result ControlReply Io → Type 0
-  HearsBy =
-      HearsOrFails (made old new) (IsPinged tally (shown old).failures (shown new).failures (counted old new))
-      (copies_new ≡ copies) (meanwhile copies copies_new old new) (shown old) (shown new)
-
-  abbrev pub ObeysBy : Account → Account → Option (List ℕ) → Option (List ℕ) → Result ControlReply Io → Type 0
+  abbrev pub ObeysBy : Account → Account → Option (List ℕ) → Option (List ℕ) → Result ControlReply Io → Option Noted
+      → Type 0
   ObeysBy = Obeys (made old new) (IsPinged tally (shown old).failures (shown new).failures (counted old new))
       (copies_new ≡ copies) (meanwhile copies copies_new old new) (shown old) (shown new)

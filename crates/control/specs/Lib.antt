@@ -1,6 +1,7 @@
 pub mod Asking
 pub mod WallClock
 pub mod Copying
+pub mod Faults
 pub mod Metrics
 pub mod Health
 pub mod Hearing
@@ -20,4 +21,5 @@ pub mod Serving
 pub mod ControlReply
 pub mod Traffic
 pub mod Tasks
+pub mod Traces
 pub mod Visits

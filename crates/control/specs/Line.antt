@@ -1,10 +1,14 @@
 -- A line among the bytes that were read.
-use Rattle.std.specs.Prelude.{ℕ, ◌≡◌, ◌<◌, ◌≤◌, ◌⊎◌, ◌++◌, Bool, IsTrue, List, length, Contains}
+use Rattle.std.specs.Prelude.{ℕ, ◌≡◌, ◌<◌, ◌≤◌, ◌+◌, ◌⊎◌, ◌++◌, Bool, IsTrue, List, length, Contains}
 use Rattle.histories.specs.Account.{Account, Gives}
 use Rattle.histories.specs.Calls.{Reads}
 use Rattle.engine.specs.Causes.{IsUnreadable}
 use Rattle.orders.specs.Order.{longest_copy}
 use Rattle.orders.specs.Words.{line_end}
+use Rattle.control.specs.declared.line.Came.{Came}
+use Rattle.control.specs.declared.line.Came.TheVariants.{All, Part, Interrupted, Late}
+use Rattle.control.specs.declared.line.Extent.{Extent}
+use Rattle.control.specs.declared.line.Extent.TheVariants.{Line, Stream}
 
 -- a line ends in the bytes, or would be longer than the most bytes that it may have
 abbrev pub HasEnough : ℕ → List ℕ → Type 0
@@ -43,3 +47,47 @@ pub record ReadsTo (most : ℕ) (came came_new : Account) (got : List ℕ) : Typ
 -- so it is of the line of an operator
 abbrev pub ReadsLine : Account → Account → List ℕ → Type 0
 ReadsLine = ReadsTo longest_copy
+
+-- ---- a reply
+
+-- the most bytes of an outcome's line, of one read, and of both
+abbrev pub longest_outcome : ℕ
+longest_outcome = 10
+
+abbrev pub most_read : ℕ
+most_read = longest_copy + 1
+
+abbrev pub reply_room : ℕ
+reply_room = longest_outcome + most_read
+
+-- no more has to be read of it, whatever comes
+abbrev pub IsAll : Extent → List ℕ → Type 0
+IsAll Line got = HasEnough longest_outcome got
+IsAll Stream got = ⊥
+
+-- if a line has more bytes than an outcome's by now, it had before
+abbrev pub IsPartAfter : Extent → ℕ → ℕ → Type 0
+IsPartAfter Line len len_new = longest_outcome < len_new → longest_outcome < len
+IsPartAfter Stream len len_new = Unit {0}
+
+-- all of it came with these bytes, or a part
+abbrev pub ComesWith : Extent → Came → List ℕ → Type 0
+ComesWith extent All got = IsAll extent got
+ComesWith extent Part got = IsPartAfter extent 0 (length got)
+ComesWith extent Interrupted got = ⊥
+ComesWith extent Late got = ⊥
+
+-- what a read came to, by the bytes so far and their counts
+abbrev pub Comes : Extent → Came → List ℕ → ℕ → ℕ → Account → Type 0
+Comes extent All got_new len len_new came_new = IsAll extent got_new ⊎ IsTrue came_new.is_over
+Comes extent other got_new len len_new came_new = IsPartAfter extent len len_new
+
+-- It was read, behind other bytes, and no more has to be.
+pub record ReadsReply (extent : Extent) (came came_new : Account) (got got_new : List ℕ) : Type 0 where
+  pub more : ReadsMore came came_new got got_new
+  pub all : IsAll extent got_new ⊎ IsTrue came_new.is_over
+
+-- memory for it may run out, since it has no bound, or since the room or the bytes before it are not those of a line
+abbrev pub LacksRoom : Extent → ℕ → ℕ → Type 0
+LacksRoom Line capacity len = (longest_outcome < len) ⊎ (capacity < reply_room)
+LacksRoom Stream capacity len = Unit {0}

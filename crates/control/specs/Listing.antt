@@ -21,11 +21,6 @@ whole text = text ++ codes "done\n"
 abbrev pub AreLines : List ℕ → Type 0
 AreLines text = (text ≡ []) ⊎ ((front : List ℕ) × (text ≡ front ++ line_end ∷ []))
 
--- the reply is this list, whose last line has its end, and the line that ends it
-pub record IsReplyOf (reply text : List ℕ) : Type 0 where
-  pub is : reply ≡ whole text
-  pub lines : AreLines text
-
 -- from old to new a list was read, in each world that the store stood for, or a fault was met; nothing was changed
 abbrev pub ReadsList : Shown → Shown → Listing → Result (List ℕ) StoreFault → Type 0
 ReadsList old new Keys result = ListsKeys old new result

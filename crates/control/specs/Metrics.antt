@@ -1,15 +1,15 @@
 -- What a server knows of its store beside the versions.
-use Rattle.std.specs.Prelude.{ℕ, ◌≡◌, List, [], ◌∷◌, ◌++◌, Option, Some, None, option_copied, Result, Ok, Err}
+use Rattle.std.specs.Prelude.{ℕ, ◌≡◌, List, [], ◌∷◌, ◌++◌, Option, Some, option_copied, Result, Ok, Err}
 use Rattle.interleave.specs.declared.between.CopyProgress.{CopyProgress}
 use Rattle.control.specs.declared.copies.CopyRefusal.{CopyRefusal}
 use Rattle.control.specs.declared.health.Metrics.{Metrics}
 use Rattle.control.specs.declared.traffic.Traffic.{Traffic}
 
--- After a copy that was made, the time that is kept is the last that was shown, or none could be read. After a copy
--- that was not made, it is the one that was kept before.
-abbrev pub NotesTime : List (List ℕ) → Option (List ℕ) → Option (List ℕ) → Result (Unit {0}) CopyRefusal → Type 0
-NotesTime times old (Some time) (Ok u) = (before : List (List ℕ)) × (times ≡ before ++ time ∷ [])
-NotesTime times old None (Ok u) = Unit {0}
+-- After a copy that was made, what is kept is what the clock showed last: a time, or none where it could not be read.
+-- After a copy that was not made, it is what was kept before.
+abbrev pub NotesTime :
+    List (Option (List ℕ)) → Option (List ℕ) → Option (List ℕ) → Result (Unit {0}) CopyRefusal → Type 0
+NotesTime times old new (Ok u) = (before : List (Option (List ℕ))) × (times ≡ before ++ new ∷ [])
 NotesTime times old new (Err why) = new ≡ old
 
 -- The sizes are those of figures of which this is known, and the rest is what is kept, and how far a copy is.

@@ -9,6 +9,8 @@ use Rattle.world.specs.declared.registry.RegistryReply.{RegistryReply}
 use Rattle.world.specs.declared.registry.RegistryReply.TheVariants.{NoKey}
 use Rattle.world.specs.declared.registry.StoreFault.{StoreFault}
 use Rattle.control.specs.Copying.{Step, LookedUp, OfTask, GoesThroughSteps}
+use Rattle.control.specs.Noted.{IsNoted, Noted}
+use Rattle.control.specs.Notices as notice
 use Rattle.control.specs.Outcome.{outcome_of}
 use Rattle.control.specs.Tasks.{Ordered}
 use Rattle.orders.specs.declared.command.RegistryCommand.TheVariants.{KeyRevoke}
@@ -35,6 +37,12 @@ named_steps f (NamesOne key told) = LookedUp f (Ok (Some key.now)) ∷ OfTask (O
 named_steps f NamesNone = LookedUp f (Ok None) ∷ []
 named_steps f (ReadError fault) = LookedUp f (Err fault) ∷ []
 
+-- what is noted of it: the registry command, if one was carried out
+abbrev pub named_notice : Naming → Option notice.Occasion
+named_notice (NamesOne key told) = Some (notice.Ordered (KeyRevoke key) told)
+named_notice NamesNone = None
+named_notice (ReadError fault) = None
+
 -- on an honest disk this was found of the keys of each world that the store stood for
 abbrev pub IsFound : Shown → Shown → List ℕ → Option (List ℕ) → Type 0
 IsFound old new f found = new.is_honest → (w : World) → old.stands w → found ≡ only_with (keys_in w) f
@@ -45,9 +53,11 @@ Finds old new f (NamesOne key told) = IsFound old new f (Some key.now)
 Finds old new f NamesNone = IsFound old new f None
 Finds old new f (ReadError fault) = Unit {0}
 
--- From old to new the key with this fingerprint was looked up, and revoked if it was found, and this came of it.
-pub record RevokesNamed (old new : Shown) (f : List ℕ) (outcome : Outcome) : Type 0 where
+-- From old to new the key with this fingerprint was looked up, and revoked if it was found, and this came of it, and
+-- is noted.
+pub record RevokesNamed (old new : Shown) (f : List ℕ) (outcome : Outcome) (noted : Option Noted) : Type 0 where
   pub naming : Naming
   pub through : GoesThroughSteps old new (named_steps f naming)
   pub finds : Finds old new f naming
   pub tells : outcome ≡ outcome_of (named_result naming)
+  pub notes : IsNoted (named_notice naming) noted

@@ -1,40 +1,94 @@
--- What is noted of a store that is served.
-use Rattle.std.specs.Prelude.{◌≡◌, Bool, true, false, Option, Some, None, IfSome, Result, Ok, Err}
+-- What is noted of a store that is served, and of the orders of its operators.
+use Rattle.std.specs.Prelude.{◌≡◌, ◌⊎◌, Bool, true, false, List, [], ◌∷◌, ◌++◌, ℕ, Option, Some, None, Result, Ok, Err}
+use Rattle.std.specs.Prelude.{IfOk}
+use Rattle.std.specs.declared.alloc.AllocError.{AllocError}
 use Rattle.engine.specs.declared.fault.Io.{Io}
 use Rattle.world.specs.declared.registry.StoreFault.{StoreFault}
-use Rattle.control.specs.Notices.{Answer, Answered, Met, Occasion, Ordered, line_of}
+use Rattle.control.specs.Faults.{IsHeldBack}
+use Rattle.control.specs.Notices.{Answered, Lost, Met, Occasion, line_of}
+use Rattle.control.specs.Traffic.{CountsOne, StaysUncounted, was_published}
+use Rattle.control.specs.declared.faults.RecentFaults.{RecentFaults}
 use Rattle.control.specs.declared.store_call.StoreCall.{StoreCall}
 use Rattle.control.specs.declared.notice.Notice.{Notice}
-use Rattle.orders.specs.declared.command.RegistryCommand.{RegistryCommand}
+use Rattle.control.specs.declared.traffic.Traffic.{Traffic}
+use Rattle.control.specs.declared.traffic.Transfer.{Transfer}
+use Rattle.control.specs.declared.traffic.Transfer.TheVariants.{Publish}
 use Rattle.control.specs.declared.control_reply.ControlReply.{ControlReply}
 use Rattle.control.specs.declared.control_reply.ControlReply.TheVariants as told
 
--- the notice has the line of this occasion; there is none if memory ran out for it
-abbrev pub IsAbout : Occasion → Option Notice → Type 0
-IsAbout about notice = IfSome notice (λ n. n.text ≡ line_of about)
+-- a notice, or that memory ran out for it
+abbrev pub Noted : Type 0
+Noted = Result Notice AllocError
 
--- the notice of a call that met a fault is about that; after any other call it is what it was
-abbrev pub NotesFault : {X : Type 0} → StoreCall → Result X StoreFault → Option Notice → Option Notice → Type 0
+-- the line that is written of it
+abbrev pub noted_line : Noted → List ℕ
+noted_line (Ok notice) = notice.text
+noted_line (Err none) = line_of Lost
+
+-- this occasion is noted, with its line, unless memory ran out for the line
+abbrev pub IsAbout : Occasion → Option Noted → Type 0
+IsAbout about None = ⊥
+IsAbout about (Some noted) = IfOk noted (λ notice. notice.text ≡ line_of about)
+
+-- so it is of an occasion, if there is one; otherwise nothing is noted
+abbrev pub IsNoted : Option Occasion → Option Noted → Type 0
+IsNoted None noted = noted ≡ None
+IsNoted (Some about) noted = IsAbout about noted
+
+-- it is noted that memory ran out
+abbrev pub IsLost : Option Noted → Type 0
+IsLost None = ⊥
+IsLost (Some (Ok notice)) = ⊥
+IsLost (Some (Err none)) = Unit {0}
+
+-- a call that met a fault is noted; after any other call what is noted is what it was
+abbrev pub NotesFault : {X : Type 0} → StoreCall → Result X StoreFault → Option Noted → Option Noted → Type 0
 NotesFault asked (Ok x) old new = new ≡ old
 NotesFault asked (Err fault) old new = IsAbout (Met asked fault) new
 
--- so it is of a publish; while publishes are held back, the notice is what it was
-abbrev pub NotesPublish : Bool → StoreCall → Result (Unit {0}) StoreFault → Option Notice → Option Notice → Type 0
-NotesPublish true asked result old new = new ≡ old
-NotesPublish false asked result old new = NotesFault asked result old new
+-- one transfer of a shelf was counted, and nothing noted; or memory ran out for the counts of the shelf, which is noted
+abbrev pub CountsOrNotes : Transfer → List ℕ → Traffic → Traffic → Option Noted → Option Noted → Type 0
+CountsOrNotes transfer shelf counts counts_new old new =
+    (CountsOne transfer shelf counts counts_new × (new ≡ old))
+    ⊎ (StaysUncounted shelf counts counts_new × IsLost new)
 
--- the notice of a registry command that was carried out is about that
-abbrev pub NotesCommand : RegistryCommand → Answer → Option Notice → Type 0
-NotesCommand command answer new = IsAbout (Ordered command answer) new
+-- so it is if this is true; otherwise nothing is counted or noted
+abbrev pub CountsIf : Bool → Transfer → List ℕ → Traffic → Traffic → Option Noted → Option Noted → Type 0
+CountsIf true transfer shelf counts counts_new old new = CountsOrNotes transfer shelf counts counts_new old new
+CountsIf false transfer shelf counts counts_new old new = (counts_new ≡ counts) × (new ≡ old)
 
--- a notice that is there gives way to the one for an operator who was not told how its catalog ended, if there is that
-abbrev pub NotesCut : Option Notice → Option Notice → Option Notice → Type 0
-NotesCut (Some cut) old new = new ≡ Some cut
-NotesCut None old new = new ≡ old
+-- so it is of a call that met no fault; a fault is noted, and nothing is counted
+abbrev pub CountsUnmet : {X : Type 0} → Bool → StoreCall → Result X StoreFault → Transfer → List ℕ → Traffic → Traffic
+    → Option Noted → Option Noted → Type 0
+CountsUnmet done asked (Ok x) transfer shelf counts counts_new old new =
+    CountsIf done transfer shelf counts counts_new old new
+CountsUnmet done asked (Err fault) transfer shelf counts counts_new old new =
+    (counts_new ≡ counts) × IsAbout (Met asked fault) new
 
--- A notice that is there stays, unless an operator was not told how its catalog ended. If there is none, one is made
--- about an outcome that an operator was told.
-abbrev pub NotesTold : Result ControlReply Io → Option Notice → Option Notice → Option Notice → Type 0
-NotesTold (Err why) cut old new = NotesCut cut old new
-NotesTold (Ok (told.Outcome outcome)) cut None new = IsAbout (Answered outcome) new
-NotesTold other cut old new = new ≡ old
+-- so it is of a publish; while publishes are held back, nothing is counted or noted
+abbrev pub CountsUnheld : Bool → StoreCall → Result (Unit {0}) StoreFault → List ℕ → Traffic → Traffic → Option Noted
+    → Option Noted → Type 0
+CountsUnheld true asked result shelf counts counts_new old new = (counts_new ≡ counts) × (new ≡ old)
+CountsUnheld false asked result shelf counts counts_new old new =
+    CountsUnmet (was_published result) asked result Publish shelf counts counts_new old new
+
+-- what was done for an operator is noted; if nothing was, the outcome that it was told is
+abbrev pub NotesTold : Option Noted → Result ControlReply Io → Option Noted → Type 0
+NotesTold (Some done) said new = new ≡ Some done
+NotesTold None (Ok (told.Outcome outcome)) new = IsAbout (Answered outcome) new
+NotesTold None other new = new ≡ None
+
+-- the lines that are written of what is noted: its own, or none if nothing is
+abbrev pub AreOf : Option Noted → List (List ℕ) → Type 0
+AreOf None lines = lines ≡ []
+AreOf (Some noted) lines = lines ≡ noted_line noted ∷ []
+
+-- so it is of a fault, which is not told while it is held back
+abbrev pub AreUnheld : RecentFaults → Option Noted → List (List ℕ) → Type 0
+AreUnheld faults None lines = lines ≡ []
+AreUnheld faults (Some noted) lines =
+    (lines ≡ noted_line noted ∷ []) ⊎ ((lines ≡ []) × IsHeldBack faults (noted_line noted))
+
+-- these lines come first, and then others
+abbrev pub BeginsWith : Option Noted → List (List ℕ) → Type 0
+BeginsWith noted lines = (own : List (List ℕ)) × (rest : List (List ℕ)) × (lines ≡ own ++ rest) × AreOf noted own

@@ -1,11 +1,12 @@
 -- What `serve` writes on standard error: lines that say what happened, in which no key stands.
-use Rattle.std.specs.Prelude.{ℕ, ◌≡◌, ◌≢◌, ◌⊎◌, ◌++◌, ◌&&◌, not, if◌then◌else◌, Bool, true, false}
+use Rattle.std.specs.Prelude.{ℕ, ◌≡◌, ◌≢◌, ◌<◌, ◌≤◌, ◌⊎◌, ◌++◌, ◌&&◌, not, if◌then◌else◌, Bool, true, false}
 use Rattle.std.specs.Prelude.{List, [], ◌∷◌, All, codes, decimal, Option, Some, None, option_copied}
 use Rattle.std.specs.Prelude.{Result, Ok, Err}
 use Rattle.std.specs.FinMap as map
 use Rattle.std.specs.List.{list_all}
 use Rattle.std.specs.Str.{chars, is_utf8}
 use Rattle.std.specs.Io.KnownBytes.{Appends}
+use Rattle.histories.specs.Calls.{Writes}
 use Rattle.ucd_category.specs.GeneralCategory.{general_category}
 use Rattle.ucd_category.specs.declared.GeneralCategory.{GeneralCategory}
 use Rattle.ucd_category.specs.declared.GeneralCategory.TheVariants as category
@@ -138,6 +139,8 @@ pub data Occasion : Type 0 where
   Met : StoreCall → StoreFault → Occasion
   -- the store of this file is no longer served
   Ended : List ℕ → Occasion
+  -- memory ran out for another line, or for the counts of a shelf
+  Lost : Occasion
 
 -- a store was opened, and its versions were counted with this result
 abbrev pub opened : List ℕ → Result ℕ StoreFault → Occasion
@@ -165,6 +168,7 @@ line_of (Answered told) = codes "order: " ++ outcome.line_of told
 line_of (Reserved told) = codes "reserve: " ++ outcome.line_of told
 line_of (Met asked fault) = outcome_line (codes "fault: ") (errand_words asked) (Failed fault)
 line_of (Ended file) = codes "ended: " ++ (plain file ++ codes "\n")
+line_of Lost = codes "lost: memory\n"
 
 -- a text is the line of an occasion
 abbrev pub IsNotice : List ℕ → Type 0
@@ -192,6 +196,24 @@ pub record WritesNotices (old new : Option (List ℕ)) : Type 0 where
   pub text : List ℕ
   pub lines : AreNotices text
   pub writes : Appends old new text
+
+-- Lines that are so were written whole, and nothing else, and are flushed if all before them was. Here and below a
+-- writer is what it took, and the calls to it.
+pub record WritesWhole (are : List (List ℕ) → Type 0) (old new : Option (List ℕ) × Writes) : Type 0 where
+  pub lines : List (List ℕ)
+  pub each : All IsNotice lines
+  pub so : are lines
+  pub writes : Appends old.0 new.0 (joined lines)
+  pub flushed : old.1.unflushed ≡ [] → new.1.unflushed ≡ []
+
+-- whichever lines they are
+abbrev pub AreAny : List (List ℕ) → Type 0
+AreAny lines = Unit {0}
+
+-- so it was, or a call to write or to flush failed
+pub record WritesLines (are : List (List ℕ) → Type 0) (old new : Option (List ℕ) × Writes) : Type 0 where
+  pub no_fewer : old.1.failed ≤ new.1.failed
+  pub whole : (old.1.failed < new.1.failed) ⊎ WritesWhole are old new
 
 -- a line begins behind these bytes
 abbrev pub EndsLine : List ℕ → Type 0

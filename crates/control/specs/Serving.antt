@@ -12,9 +12,10 @@ use Rattle.interleave.specs.Interleave.{IsAsItWas}
 use Rattle.interleave.specs.declared.between.CopyProgress.{CopyProgress}
 use Rattle.control.specs.Copying.{Making, AllRead, IsBusy, IsOnlyRead, tasks_in, has_read}
 use Rattle.control.specs.Health.{Answered, IsPinged, with_one}
-use Rattle.control.specs.Notices.{WritesNotices}
+use Rattle.control.specs.Notices.{WritesLines, WritesNotices}
 use Rattle.control.specs.Pinging.{TellsHowFar}
 use Rattle.control.specs.Tasks.{GoesThroughTasks}
+use Rattle.control.specs.Traces.{HasTraces, WritesTrace}
 use Rattle.control.specs.Visits.{Call, OfPeer, OfOperator, Untaken, AnswersOne, IsCallThere, IsNoStop, IsStop, ObeysOne}
 use Rattle.control.specs.Visits.{Happened, TellsTally}
 use Rattle.control.specs.Visits.{answered_with, callers_of, connections_of, steps_with}
@@ -44,11 +45,11 @@ EndsBy {P} {O} false true calls =
 EndsBy false false calls = All IsNoStop calls
 
 -- An operator was obeyed while a copy is made or a catalog is printed, with the tally of the moment. No copy was made
--- for it, and a ping was told how far the one is, or of none. Then it was ended.
+-- for it, and a ping was told how far the one is, or of none. A line was written for its order. Then it was ended.
 pub record ObeysMeanwhile {P O : Type 0} (heeded : O → Account × Reads) (told : O → Option (List ℕ) × Writes)
     {S : Type 0} (shown : S → Shown) (made : S → S → Making → Type 0)
     (counted : S → S → ℕ → Type 0) (operator : O) (far : Option CopyProgress) (door end : Door (Caller P O))
-    (before after : Progress) (old new : S) : Type 0
+    (before after : Progress) (errors errors_new : Option (List ℕ) × Writes) (old new : S) : Type 0
   where
     pub stops : Bool
     pub gone : O
@@ -61,6 +62,7 @@ pub record ObeysMeanwhile {P O : Type 0} (heeded : O → Account × Reads) (told
     pub taken : after.taken ≡ before.taken + 1
     pub ends : after.stops ≡ (before.stops || stops)
     pub tells : IfOk obeys.audience.told (TellsHowFar far)
+    pub trace : WritesTrace obeys.audience.heard obeys.audience.told errors errors_new
 
 -- a peer was answered and then ended, and counts as a connection
 pub record ServesPeer {P O : Type 0} (heard : P → Account × Reads) (written : P → Option (List ℕ) × Writes) (peer : P)
@@ -75,11 +77,11 @@ pub record ServesPeer {P O : Type 0} (heard : P → Account × Reads) (written :
   pub stops : after.stops ≡ before.stops
 
 -- a server that makes a copy, and its store, at an instant: who waits and what was done with those who came, how far it
--- is, what it wrote, and its two loans
+-- is, its writer of notices, and its two loans
 pub record Instant (P O S : Type 0) : Type 0 where
   pub door : Door (Caller P O)
   pub progress : Progress
-  pub errors : Option (List ℕ)
+  pub errors : Option (List ℕ) × Writes
   pub lent : ℕ × ℕ
   pub store : S
 
@@ -88,10 +90,10 @@ module _ {P O : Type 0} (heeded : O → Account × Reads) (told : O → Option (
     {S : Type 0} (shown : S → Shown) (made : S → S → Making → Type 0)
     (counted : S → S → ℕ → Type 0) where
   -- From one moment to another, callers were served one after another, each once; if the flag is true, the store was
-  -- also read between them. What was said of them holds as `ServesEach`, `ReadsEach` and `EndsEach` say, and the
-  -- progress goes on by them.
+  -- also read between them. What was said of them holds as `ServesEach`, `ReadsEach`, `EndsEach` and `TracesEach` say,
+  -- and the progress goes on by them.
   pub record Serves (read : Bool) (door end : Door (Caller P O)) (before after : Progress)
-      (old new : S) : Type 0 where
+      (errors errors_new : Option (List ℕ) × Writes) (old new : S) : Type 0 where
     pub calls : List (Call P O)
     pub came : Come door.0 end.0 (callers_of calls)
     pub happened : Happened door.1 end.1 calls
@@ -106,11 +108,12 @@ module _ {P O : Type 0} (heeded : O → Account × Reads) (told : O → Option (
     pub left : before.left ≡ after.left + connections_of calls
     pub taken : after.taken ≡ before.taken + length calls
     pub ends : EndsBy before.stops after.stops calls
+    pub traces : WritesLines (HasTraces calls) errors errors_new
 
   -- So it was while a copy was made, notices were written, and both loans of the server are the same ones.
   pub record ServesMeanwhile (a b : Instant P O S) : Type 0 where
-    pub serves : Serves true a.door b.door a.progress b.progress a.store b.store
-    pub notes : WritesNotices a.errors b.errors
+    pub serves : Serves true a.door b.door a.progress b.progress a.errors b.errors a.store b.store
+    pub notes : WritesNotices a.errors.0 b.errors.0
     pub same : b.lent ≡ a.lent
 
   -- the store was read and nothing else was done, or callers were served

@@ -1,5 +1,5 @@
 -- How often each shelf was published to and fetched from since a server began, and the lines that tell it.
-use Rattle.std.specs.Prelude.{ℕ, ◌≡◌, ◌⊎◌, ◌+◌, ◌-◌, ◌^◌, ◌++◌, min, Bool, true, false, IsTrue, ◌||◌, bytes_eq}
+use Rattle.std.specs.Prelude.{ℕ, ◌≡◌, ◌+◌, ◌-◌, ◌^◌, ◌++◌, min, Bool, true, false, IsTrue, ◌||◌, bytes_eq}
 use Rattle.std.specs.Prelude.{List, [], All, codes, decimal, Option, Some, None, unwrap_or, Result, Ok, Err}
 use Rattle.std.specs.FinMap as map
 use Rattle.std.specs.List.{flat_map}
@@ -34,11 +34,6 @@ CountsOne transfer shelf old new =
 -- the shelf had no counts, and got none
 abbrev pub StaysUncounted : List ℕ → Traffic → Traffic → Type 0
 StaysUncounted shelf old new = (map.get old.shelves shelf ≡ None) × (new ≡ old)
-
--- a transfer was counted if this is true, or the shelf stays without counts for want of memory; nothing was otherwise
-abbrev pub CountsIf : Bool → Transfer → List ℕ → Traffic → Traffic → Type 0
-CountsIf true transfer shelf old new = CountsOne transfer shelf old new ⊎ StaysUncounted shelf old new
-CountsIf false transfer shelf old new = new ≡ old
 
 -- whether the store kept what was published
 abbrev pub was_published : Result (Unit {0}) StoreFault → Bool

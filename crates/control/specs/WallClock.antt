@@ -1,7 +1,6 @@
 -- What shows the time.
-use Rattle.std.specs.Prelude.{ℕ, ◌≡◌, List, [], ◌∷◌, ◌++◌, Option, Some, None}
+use Rattle.std.specs.Prelude.{ℕ, ◌≡◌, List, [], ◌∷◌, ◌++◌, Option}
 
--- after these times this one was shown, or none, because the clock could not be read
-abbrev pub Shows : List (List ℕ) → List (List ℕ) → Option (List ℕ) → Type 0
-Shows times times_new (Some time) = times_new ≡ times ++ time ∷ []
-Shows times times_new None = times_new ≡ times
+-- the clock was read once more, and showed this time, or none, because it could not be read
+abbrev pub Shows : List (Option (List ℕ)) → List (Option (List ℕ)) → Option (List ℕ) → Type 0
+Shows times times_new time = times_new ≡ times ++ time ∷ []

@@ -1,34 +1,34 @@
 //! The operator's side.
-ghost use Rattle.std.specs.Prelude.{◌≡◌, IfOk, IfErr, IfSome, string_bytes};
-ghost use Rattle.histories.specs.Account.{Gives};
-ghost use Rattle.orders.specs.Order.{IsLineOf, ListOf, Ping, Stop, line_for, ordered};
-ghost use Rattle.orders.specs.Outcome.{line_of};
-ghost use Rattle.control.specs.Asking.{Asks, AsksForHealth, AsksForList, AsksHeard, AsksToStop, HearsHealth};
-ghost use Rattle.control.specs.Asking.{HearsList, IsSent, IsTold, IsUnwritten, LineGets, Sends, SendsHeard};
-ghost use Rattle.control.specs.Asking.{TellsBytes, TellsHealth, TellsList, TellsOutcome};
-ghost use Rattle.control.specs.ControlReply.{bytes_told};
+ghost use Rattle.std.specs.Prelude.{◌≡◌, ◌<◌, ◌≤◌, [], IfOk, MatchOption, length, take, vec_capacity, vec_len};
+ghost use Rattle.orders.specs.Order.{Ping, ordered};
+ghost use Rattle.control.specs.Asking as spec;
+ghost use Rattle.control.specs.Line.{reply_room};
+ghost use Rattle.control.specs.Listing.{AreLines};
 
-use crate::control_reply::ControlReply;
 use crate::health::health_line_in;
-use crate::line::{read_all, read_line};
-use crate::listing::list_in;
+use crate::line::{Extent, REPLY_ROOM, ReadError, read_reply};
 use engine::write::write_bytes;
 use histories::{Hear, Tell};
-use orders::{Listing, Order, Outcome, WriteError, ping_line, read_outcome, stop_line};
-use std::alloc::Global;
+use orders::{Order, Outcome, WriteError, read_outcome};
+use std::alloc::{AllocError, Global};
 use world::bytes::Bytes;
+use world::registry::RegistryReply;
 
-/// Why no outcome was read.
+/// Why nothing is known of what came of an order.
 #[derive(Clone, Copy, Debug, Drop, PartialEq, Eq)]
 pub enum SendError {
     /// A name, the key or the path in the order has a space or the end of a line, or makes its line too long. Nothing
     /// was sent.
     Words,
-    /// Memory ran out for the line. Nothing was sent.
+    /// Memory ran out for the line, or for the room of its reply. Nothing was sent.
     Memory,
-    /// The line was not sent whole, or no outcome was read: a read failed, the bytes are no outcome's line, or memory
-    /// ran out. Whether the order was carried out is not known.
+    /// A write failed, so that the line was not sent whole, or a read did, once it was. Whether the order was carried
+    /// out is not known.
     Io,
+    /// The line was sent, and what came is no reply to it.
+    NoReply,
+    /// The line was sent, and memory ran out for what came: a health, a list or a catalog, whose length has no bound.
+    ReplyMemory,
 }
 
 impl From<WriteError> for SendError {
@@ -44,191 +44,188 @@ impl From<WriteError> for SendError {
     }
 }
 
-/// Sends an order whose reply is an outcome alone, and returns that.
-///
-/// `SendError::Words`: the order has no line. `SendError::Memory`: memory ran out for the line. In both cases nothing
-/// was sent. `SendError::Io`: the line was not sent whole, or no outcome was read.
-pub fn ask<R: Hear, W: Tell>(
+impl From<AllocError> for SendError {
+    ghost use Rattle.control.specs.declared.client.SendError.TheVariants.{Memory};
+
+    ghost from_gives = { λ _ untold. untold ≡ Memory };
+
+    fn from(_error: AllocError) -> SendError {
+        SendError::Memory
+    }
+}
+
+/// What came of an order.
+#[derive(Drop)]
+pub enum OrderReply {
+    /// An outcome.
+    Outcome(Outcome),
+    /// The lines of a health, or those of a list or a catalog without the last one, which says that they are all.
+    Text(Bytes),
+}
+
+/// Sends an order, and returns what came of it.
+pub fn send<R: Hear, W: Tell>(
     alloc: Global,
     reader: &mut R,
     writer: &mut W,
     order: &Order,
-) -> Result<Outcome, SendError>
-    ensures asks { Asks (R.remaining reader.old) (R.remaining reader.new)
-        (W.contents writer.old) (W.contents writer.new) (ordered order.now) result }
-    // So it is by what came, which need not be known before.
-    ensures heard { AsksHeard (R.account reader.old) (R.account reader.new) (W.contents writer.old)
-        (W.contents writer.new) (W.writes writer.old).failed (W.writes writer.new).failed (ordered order.now) result }
+) -> Result<OrderReply, SendError>
+    ensures { spec.OrderGets (R.account reader.old) (R.account reader.new) (R.reads reader.old) (R.reads reader.new)
+        (W.contents writer.old) (W.contents writer.new) (W.writes writer.old).failed (W.writes writer.new).failed
+        (ordered order.now) result }
 {
-    let line = line_to_send(alloc, order)?;
-    send(alloc, reader, writer, line.as_bytes())
+    let mut got = send_order(alloc, writer, order)?;
+    let read = read_reply(reader, &mut got, extent_of(order));
+    reply_to(alloc, order, got, read)
 }
 
-/// Orders the server to end, and returns the outcome: `Outcome::Stopping` if it ends. Fails only with `SendError::Io`:
-/// the line was not sent whole, or no outcome was read.
-pub fn ask_to_stop<R: Hear, W: Tell>(
+/// Sends the line of an order, of which the reply is still to be read, and returns room for the line of an outcome.
+/// Fails with `Words` or `Memory` if nothing was sent, and with `Io` if the line was not sent whole.
+pub fn send_order<W: Tell>(
     alloc: Global,
-    reader: &mut R,
     writer: &mut W,
-) -> Result<Outcome, SendError>
-    ensures asks { AsksToStop (R.remaining reader.old) (R.remaining reader.new)
-        (W.contents writer.old) (W.contents writer.new) result }
-    // So it is by what came, which need not be known before.
-    ensures heard { SendsHeard (R.account reader.old) (R.account reader.new) (W.contents writer.old)
-        (W.contents writer.new) (W.writes writer.old).failed (W.writes writer.new).failed (line_for Stop) result }
-{
-    send(alloc, reader, writer, stop_line().as_bytes())
-}
-
-/// Asks for the health of the server, and returns its lines, or an outcome if the server sends one instead. Fails only
-/// with `SendError::Io`: the line was not sent whole, memory ran out, or neither a whole health nor an outcome was
-/// read.
-pub fn ask_for_health<R: Hear, W: Tell>(
-    alloc: Global,
-    reader: &mut R,
-    writer: &mut W,
-) -> Result<ControlReply, SendError>
-    ensures asks { AsksForHealth (R.remaining reader.old) (R.remaining reader.new)
-        (W.contents writer.old) (W.contents writer.new) result }
-    // So it is by what came, which need not be known before.
-    ensures heard { LineGets HearsHealth (R.account reader.old) (R.account reader.new) (W.contents writer.old)
-        (W.contents writer.new) (W.writes writer.old).failed (W.writes writer.new).failed (line_for Ping) result }
-{
-    match write_bytes(writer, ping_line().as_bytes()) {
-        Ok(()) => hear_health(alloc, reader),
-        Err(_) => Err(SendError::Io),
-    }
-}
-
-/// Asks for a list, and returns it without its last line, or the outcome that the server sends in its place. Fails only
-/// with `SendError::Io`: the line was not sent whole, memory ran out, or neither a whole list nor an outcome was read.
-pub fn ask_for_list<R: Hear, W: Tell>(
-    alloc: Global,
-    reader: &mut R,
-    writer: &mut W,
-    listing: Listing,
-) -> Result<Result<Bytes, Outcome>, SendError>
-    ensures asks { AsksForList (R.remaining reader.old) (R.remaining reader.new)
-        (W.contents writer.old) (W.contents writer.new) listing result }
-    // So it is by what came, which need not be known before.
-    ensures heard { LineGets HearsList (R.account reader.old) (R.account reader.new) (W.contents writer.old)
-        (W.contents writer.new) (W.writes writer.old).failed (W.writes writer.new).failed
-        (line_for (ListOf listing)) result }
-{
-    match write_bytes(writer, listing.line().as_bytes()) {
-        Ok(()) => hear_list(alloc, reader),
-        Err(_) => Err(SendError::Io),
-    }
-}
-
-/// Sends an order, of which the reply is still to be read.
-///
-/// `SendError::Words`: the order has no line. `SendError::Memory`: memory ran out for the line. In both cases nothing
-/// was sent. `SendError::Io`: the line was not sent whole.
-pub fn send_order<W: Tell>(alloc: Global, writer: &mut W, order: &Order) -> Result<(), SendError>
-    ensures { IsSent (W.contents writer.old) (W.contents writer.new)
+    order: &Order,
+) -> Result<Vec<u8>, SendError>
+    ensures sent { spec.IsSent (W.contents writer.old) (W.contents writer.new)
         (W.writes writer.old).failed (W.writes writer.new).failed (ordered order.now) result }
+    ensures empty { IfOk result (λ room. (room.items ≡ []) × (vec_len room ≡ 0)) }
+    ensures room { IfOk result (λ room. vec_capacity room ≡ reply_room) }
 {
-    let line = line_to_send(alloc, order)?;
-    match write_bytes(writer, line.as_bytes()) {
-        Ok(()) => Ok(()),
-        Err(_) => Err(SendError::Io),
-    }
-}
-
-/// Sends a line and returns the outcome. Fails only with `SendError::Io`: the line was not sent whole, or no outcome
-/// was read.
-fn send<R: Hear, W: Tell>(
-    alloc: Global,
-    reader: &mut R,
-    writer: &mut W,
-    line: &[u8],
-) -> Result<Outcome, SendError>
-    ensures sends { Sends (R.remaining reader.old) (R.remaining reader.new)
-        (W.contents writer.old) (W.contents writer.new) line.now result }
-    ensures heard { SendsHeard (R.account reader.old) (R.account reader.new) (W.contents writer.old)
-        (W.contents writer.new) (W.writes writer.old).failed (W.writes writer.new).failed line.now result }
-{
-    match write_bytes(writer, line) {
-        Ok(()) => hear_outcome(alloc, reader),
-        Err(_) => Err(SendError::Io),
-    }
-}
-
-/// Returns the line of an order, with its end. Fails with `Words` or `Memory`.
-fn line_to_send(alloc: Global, order: &Order) -> Result<String, SendError>
-    ensures ok { IfOk result (λ line. IsLineOf (string_bytes line) (ordered order.now)) }
-    ensures err { IfErr result (λ why. IsUnwritten (ordered order.now) why) }
-{
+    let room = Vec::with_capacity(alloc, REPLY_ROOM)?;
     let line = order.write(alloc)?;
-    Ok(line)
-}
-
-/// Reads the line of an outcome.
-fn hear_outcome<R: Hear>(alloc: Global, reader: &mut R) -> Result<Outcome, SendError>
-    ensures tells { TellsOutcome (R.remaining reader.old) (R.remaining reader.new) result }
-    ensures heard { IfOk result (λ told. Gives (R.account reader.old) (R.account reader.new) (line_of told)) }
-{
-    let Ok(got) = read_line(alloc, reader) else {
-        return Err(SendError::Io);
-    };
-    match read_outcome(&got) {
-        Some(told) => Ok(told),
-        None => Err(SendError::Io),
+    match write_bytes(writer, line.as_bytes()) {
+        Ok(()) => Ok(room),
+        Err(_) => Err(SendError::Io),
     }
 }
 
-/// Reads the lines of a health to their end, or the line of an outcome.
-fn hear_health<R: Hear>(alloc: Global, reader: &mut R) -> Result<ControlReply, SendError>
-    ensures tells { TellsHealth (R.remaining reader.old) (R.remaining reader.new) result }
-    ensures heard { IfOk result (λ told. HearsHealth (R.account reader.old) (R.account reader.new) told) }
+/// How much is read of the reply to an order.
+fn extent_of(order: &Order) -> Extent
+    ensures { result ≡ spec.extent_of (ordered order.now) }
 {
-    let Ok(got) = read_all(alloc, reader) else {
-        return Err(SendError::Io);
-    };
-    match told_in(alloc, &got) {
-        Some(line) => Ok(line),
-        None => Err(SendError::Io),
+    match order {
+        Order::Ping | Order::List(_) | Order::Catalog(_) => Extent::Stream,
+        Order::Stop | Order::Copy(_) | Order::RevokeByFingerprint(_) | Order::Registry(_) => {
+            Extent::Line
+        }
     }
 }
 
-/// Reads a list to its end, or the line of an outcome.
-fn hear_list<R: Hear>(alloc: Global, reader: &mut R) -> Result<Result<Bytes, Outcome>, SendError>
-    ensures tells { TellsList (R.remaining reader.old) (R.remaining reader.new) result }
-    ensures heard { IfOk result (λ told. HearsList (R.account reader.old) (R.account reader.new) told) }
+/// Returns what came of an order by the bytes that were read, or why nothing is known of it.
+pub fn reply_to(
+    alloc: Global,
+    order: &Order,
+    got: Vec<u8>,
+    read: Result<(), ReadError>,
+) -> Result<OrderReply, SendError>
+    ensures { spec.RepliesBy (ordered order.now) got.items read result }
 {
-    let Ok(got) = read_all(alloc, reader) else {
-        return Err(SendError::Io);
-    };
-    match listed_in(alloc, &got) {
-        Some(listed) => Ok(listed),
-        None => Err(SendError::Io),
+    match read {
+        Ok(()) => match reply_in(alloc, order, got) {
+            Some(reply) => Ok(reply),
+            None => Err(SendError::NoReply),
+        },
+        Err(ReadError::Io) => Err(SendError::Io),
+        Err(ReadError::Memory) => Err(SendError::ReplyMemory),
     }
 }
 
-/// What the bytes tell, if they are a whole list or the line of an outcome. None also if memory runs out.
-fn listed_in(alloc: Global, got: &[u8]) -> Option<Result<Bytes, Outcome>>
-    ensures { IfSome result (λ told. TellsBytes told got.now) }
+/// Returns what the bytes tell of an order, or None if they are no reply to it. Of a ping None also if memory runs out.
+fn reply_in(alloc: Global, order: &Order, got: Vec<u8>) -> Option<OrderReply>
+    ensures { spec.ReadsAs (ordered order.now) got.items result }
 {
-    let Some(text) = list_in(got) else {
-        return Some(Err(read_outcome(got)?));
-    };
-    match Bytes::copy_of(alloc, text) {
-        Ok(text) => Some(Ok(text)),
-        Err(_) => None,
+    match order {
+        Order::Ping => health_in(alloc, got),
+        Order::List(_) => listed_in(got, false),
+        Order::Catalog(_) => listed_in(got, true),
+        Order::Stop | Order::Copy(_) | Order::RevokeByFingerprint(_) | Order::Registry(_) => {
+            outcome_in(&got)
+        }
     }
 }
 
-/// What the bytes tell, if they are the line of an outcome or the lines of a health.
-fn told_in(alloc: Global, got: &[u8]) -> Option<ControlReply>
-    ensures line { IfSome result (λ told. got.now ≡ bytes_told told) }
-    ensures told { IfSome result IsTold }
+/// Returns the outcome whose line the bytes are, or None if they are that of none.
+fn outcome_in(got: &[u8]) -> Option<OrderReply>
+    ensures { MatchOption result (spec.IsNoOutcomeIn got.now) (λ reply. spec.IsOutcomeIn reply got.now) }
 {
-    if let Some(outcome) = read_outcome(got) {
-        return Some(ControlReply::Outcome(outcome));
-    }
-    match health_line_in(alloc, got) {
-        Some(line) => Some(ControlReply::Health(line)),
+    match read_outcome(got) {
+        Some(outcome) => Some(OrderReply::Outcome(outcome)),
         None => None,
     }
+}
+
+/// Returns the lines of a health, or an outcome, if the bytes are these. None also if memory runs out.
+fn health_in(alloc: Global, got: Vec<u8>) -> Option<OrderReply>
+    ensures { spec.ReadsAs Ping got.items result }
+{
+    if let Some(outcome) = read_outcome(&got) {
+        return Some(OrderReply::Outcome(outcome));
+    }
+    match health_line_in(alloc, &got) {
+        Some(_) => Some(OrderReply::Text(Bytes::new(got))),
+        None => None,
+    }
+}
+
+/// Returns the lines that the bytes are up to their last line, if that is `done`, or the outcome that is their last
+/// line, if nothing is before it or the lines may be cut. Otherwise None.
+fn listed_in(mut got: Vec<u8>, may_be_cut: bool) -> Option<OrderReply>
+    ensures { MatchOption result (spec.IsNoList may_be_cut got.items)
+        (λ reply. spec.IsListed may_be_cut reply got.items) }
+{
+    let at = last_line_at(&got);
+    let Some(outcome) = read_outcome(&got[at..]) else {
+        return None;
+    };
+    if is_done(outcome) {
+        got.truncate(at);
+        return Some(OrderReply::Text(Bytes::new(got)));
+    }
+    if may_be_cut {
+        return Some(OrderReply::Outcome(outcome));
+    }
+    if at == 0 {
+        Some(OrderReply::Outcome(outcome))
+    } else {
+        None
+    }
+}
+
+/// Whether an outcome says that all was done.
+fn is_done(outcome: Outcome) -> bool
+    ensures { result ≡ spec.is_done outcome }
+{
+    match outcome {
+        Outcome::RegistryReply(RegistryReply::Done) => true,
+        Outcome::RegistryReply(
+            RegistryReply::Name
+            | RegistryReply::Taken
+            | RegistryReply::NoTeam
+            | RegistryReply::NoKey
+            | RegistryReply::NoGroup,
+        )
+        | Outcome::Failed(_)
+        | Outcome::NotEmpty
+        | Outcome::Busy
+        | Outcome::Ended
+        | Outcome::Stopping
+        | Outcome::Bad => false,
+    }
+}
+
+/// Returns where the last line of a text begins, with its end or without.
+fn last_line_at(text: &[u8]) -> usize
+    ensures bound { result ≤ length text.now }
+    ensures within { 0 < length text.now → result < length text.now }
+    ensures lines { AreLines (take result text.now) }
+    ensures last { spec.IsLastFrom result text.now }
+{
+    let mut at = text.len().saturating_sub(1);
+    while at > 0 {
+        if text[at - 1] == b'\n' {
+            return at;
+        }
+        at -= 1;
+    }
+    0
 }

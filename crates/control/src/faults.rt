@@ -1,4 +1,8 @@
 //! The faults that were told in the last minute.
+ghost use Rattle.std.specs.Prelude.{◌≡◌, ◌≤◌, Bool, [], bytes_eq, false, true, vec_len};
+ghost use Rattle.std.specs.List.{list_any};
+ghost use Rattle.control.specs.Faults as spec;
+ghost use Rattle.control.specs.declared.faults.Fault.{Fault};
 
 use std::alloc::Global;
 use std::time::{Clock, Duration, Instant};
@@ -12,9 +16,10 @@ const MOST: usize = 20;
 
 /// A fault that was told.
 #[derive(Drop)]
-struct Fault {
+pub(crate) struct Fault {
     line: Text,
-    at: Instant,
+    /// When it was told, if the clock could be read then.
+    at: Option<Instant>,
 }
 
 /// The faults that were told in the last minute.
@@ -25,31 +30,63 @@ pub(crate) struct RecentFaults {
 
 impl RecentFaults {
     /// Returns the faults of a server that begins: none.
-    pub(crate) fn new(alloc: Global) -> RecentFaults {
+    pub(crate) fn new(alloc: Global) -> RecentFaults
+        ensures { result.told.items ≡ [] }
+    {
         RecentFaults {
             told: Vec::new(alloc),
         }
     }
 
     /// Returns whether the line of a fault is to be written now, and remembers it: not if it was in the last minute, or
-    /// if `MOST` lines were. Nor if the clock can't be read, or memory runs out.
-    pub(crate) fn admits<C: Clock>(&mut self, alloc: Global, clock: &C, line: &str) -> bool {
-        let Ok(now) = Instant::now(clock) else {
-            return false;
-        };
-        let pause = Duration::from_secs(PAUSE);
-        self.told
-            .retain(|fault| now.duration_since(fault.at) < pause);
-        if self.told.len() >= MOST || self.has(line) {
+    /// if `MOST` lines were. While the clock can't be read, no minute ends. If memory runs out, it is not remembered.
+    pub(crate) fn admits<C: Clock>(&mut self, alloc: Global, clock: &C, line: &str) -> bool
+        ensures { result ≡ false → spec.IsHeldBack self.old line.now }
+    {
+        let now = Instant::now(clock).ok();
+        self.forget(now);
+        if self.told.len() >= MOST {
             return false;
         }
-        let Ok(line) = Text::copy_of(alloc, line) else {
+        if has(&self.told, line) {
             return false;
-        };
-        self.told.push(Fault { line, at: now }).is_ok()
+        }
+        self.remember(alloc, line, now);
+        true
     }
 
-    fn has(&self, line: &str) -> bool {
-        self.told.iter().any(|fault| fault.line.as_str() == line)
+    /// Forgets the faults that were told longer ago than `PAUSE`, and those that were told when the clock could not be
+    /// read.
+    fn forget(&mut self, now: Option<Instant>)
+        ensures few { vec_len self.new.told ≤ vec_len self.old.told }
+        ensures same { (test : Fault → Bool) → list_any test self.new.told.items ≡ true
+            → list_any test self.old.told.items ≡ true }
+    {
+        let Some(now) = now else {
+            return;
+        };
+        self.told.retain(|fault| is_recent(fault.at, now));
     }
+
+    /// Remembers a fault that is told now, if memory does not run out.
+    fn remember(&mut self, alloc: Global, line: &str, now: Option<Instant>) {
+        if let Ok(line) = Text::copy_of(alloc, line) {
+            let _ = self.told.push(Fault { line, at: now });
+        }
+    }
+}
+
+/// Whether what was told then was told in the last minute.
+fn is_recent(at: Option<Instant>, now: Instant) -> bool {
+    match at {
+        Some(at) => now.duration_since(at) < Duration::from_secs(PAUSE),
+        None => false,
+    }
+}
+
+/// Whether one of the faults has this line.
+fn has(told: &[Fault], line: &str) -> bool
+    ensures { result ≡ list_any (λ fault. bytes_eq fault.line line.now) told.now }
+{
+    told.iter().any(|fault| fault.line.as_str() == line)
 }

@@ -5,13 +5,12 @@
 //! |---|---|
 //! | what makes copies of it, and what shows when | [`Copies`], [`CopyOrders`], [`WallClock`] |
 //! | what a ping is told: how connections were answered, what was counted by shelf, and more | [`Tally`], [`Health`] |
-//! | what an operator gets | [`ControlReply`] |
+//! | what an operator gets, and a list of the store | [`ControlReply`], [`read_list`] |
 //! | taking an operator's line, and carrying its order out | [`Operator`], [`carry_out`] |
 //! | peers of a port and operators of a socket, one after another | [`serve_both`] |
 //! | what happened, in lines without a key, for standard error | [`Notice`], [`opened`], [`ended`], [`tell`] |
 //! | room on the disk, so that an order can be carried out once it is full | [`KeepsRoom`], [`Reserve`] |
-//! | the operator's side | [`ask`], [`ask_to_stop`] |
-//! | what it asks to be told | [`ask_for_health`], [`ask_for_list`], [`send_order`], [`hear_on`], [`read_all`] |
+//! | the operator's side | [`send`]; in steps [`send_order`], [`hear_on`], [`reply_to`] |
 #![tactic(auto)]
 
 mod carry;
@@ -44,12 +43,13 @@ mod turn;
 mod wall_clock;
 
 pub use carry::{carry_out, carry_out_in};
-pub use client::{SendError, ask, ask_for_health, ask_for_list, ask_to_stop, send_order};
+pub use client::{OrderReply, SendError, reply_to, send, send_order};
 pub use control_reply::ControlReply;
 pub use copies::{CatalogRefusal, Copies, CopyOrders, CopyRefusal};
 pub use health::{Health, Metrics};
-pub use line::{Came, ReadError, hear_on, read_all};
-pub use notice::{Notice, ended, opened, reserved};
+pub use line::{Came, Extent, ReadError, hear_on};
+pub use listing::read_list;
+pub use notice::{Noted, Notice, ended, opened, reserved};
 pub use operator::{Obeyed, Operator};
 pub use reserve::{KeepsRoom, Reserve, Room, RoomDeed};
 pub use serve::serve_both;

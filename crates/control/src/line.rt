@@ -1,7 +1,6 @@
 //! Reading lines.
-ghost use Rattle.std.specs.Prelude.{◌≡◌, ◌<◌, ◌↔◌, IfOk, IfErr, IsTrue};
-ghost use Rattle.histories.specs.Account.{Gives};
-ghost use Rattle.engine.specs.Causes.{IsUnreadable};
+ghost use Rattle.std.specs.Prelude.{◌≡◌, ◌<◌, ◌≤◌, ◌+◌, ◌↔◌, IfOk, IfErr, IsTrue, OnOk, vec_capacity, vec_len};
+ghost use Rattle.engine.specs.Causes.{IsUnreadable, most_reads};
 ghost use Rattle.control.specs.Line as spec;
 
 use histories::Hear;
@@ -12,10 +11,19 @@ use std::io::{self, ErrorKind};
 /// The most reads of one line, interrupted ones included.
 const TRIES: u32 = 1_000;
 
-/// Why no line was read, or not all to the end of a stream.
+/// The most bytes of the line of an outcome.
+const LONGEST_OUTCOME: usize = 10;
+
+/// The most bytes of one read.
+const MOST_READ: usize = LONGEST_LINE + 1;
+
+/// The room that the line of an outcome takes, however it comes.
+pub(crate) const REPLY_ROOM: usize = LONGEST_OUTCOME + MOST_READ;
+
+/// Why no line was read, or not all of a reply.
 #[derive(Clone, Copy, Debug, Drop, PartialEq, Eq)]
 pub enum ReadError {
-    /// A read failed, or `TRIES` reads did not end a line.
+    /// A read failed, or all that may be made did not end it.
     Io,
     /// Memory ran out.
     Memory,
@@ -72,7 +80,7 @@ fn read_on<R: Hear>(reader: &mut R, got: &mut Vec<u8>, most: usize) -> Result<bo
     ensures fails { IfErr result (λ why. why ≡ ReadError.Io
         → (R.reads reader.old).failed < (R.reads reader.new).failed) }
 {
-    let mut chunk = [0; LONGEST_LINE + 1];
+    let mut chunk = [0; MOST_READ];
     match reader.hear(&mut chunk) {
         Ok(0) => Ok(true),
         Ok(n) => {
@@ -84,77 +92,106 @@ fn read_on<R: Hear>(reader: &mut R, got: &mut Vec<u8>, most: usize) -> Result<bo
     }
 }
 
-/// Reads to the end of the stream, and returns the bytes. Fails with `Io` if a read fails or `u64::MAX` reads are not
-/// enough, and with `Memory` if memory runs out.
-pub fn read_all<R: Hear>(alloc: Global, reader: &mut R) -> Result<Vec<u8>, ReadError>
-    ensures { IfOk result (λ got. Gives (R.account reader.old) (R.account reader.new) got.items) }
+/// How much of a reply is read.
+#[derive(Clone, Copy, Debug, Drop, PartialEq, Eq)]
+pub enum Extent {
+    /// A line: as far as its end, or further than the line of an outcome goes.
+    Line,
+    /// All that comes.
+    Stream,
+}
+
+/// What a read of a reply came to.
+#[derive(Clone, Copy, Debug, Drop, PartialEq, Eq)]
+pub enum Came {
+    /// No more has to be read, or the stream has ended.
+    All,
+    /// More has to be read.
+    Part,
+    /// Nothing came, because the read was interrupted. Linux interrupts a read whose wait is bounded once its process
+    /// was stopped and goes on.
+    Interrupted,
+    /// Nothing came in time.
+    Late,
+}
+
+/// Reads a reply behind what was read, to its end. Fails with `Io` if a read fails or `u64::MAX` reads are not enough,
+/// and with `Memory` if memory runs out, which a line takes none of that begins with `REPLY_ROOM`.
+pub(crate) fn read_reply<R: Hear>(
+    reader: &mut R,
+    got: &mut Vec<u8>,
+    extent: Extent,
+) -> Result<(), ReadError>
+    ensures reads { OnOk result (spec.ReadsReply extent
+        (R.account reader.old) (R.account reader.new) got.old.items got.new.items) }
+    // Where memory did not run out, a read failed, or all that there are began.
+    ensures cause { IfErr result (λ why. why ≡ ReadError.Io
+        → IsUnreadable most_reads (R.reads reader.old) (R.reads reader.new)) }
+    ensures memory { IfErr result (λ why. why ≡ ReadError.Memory
+        → spec.LacksRoom extent (vec_capacity got.old) (vec_len got.old)) }
 {
-    let mut got = Vec::new(alloc);
     for _ in 0..u64::MAX {
-        if read_more(reader, &mut got)? {
-            return Ok(got);
+        match hear_on(reader, got, extent)? {
+            Came::All => return Ok(()),
+            Came::Part | Came::Interrupted => {}
+            Came::Late => return Err(ReadError::Io),
         }
     }
     Err(ReadError::Io)
 }
 
-/// Reads once, after what was read, and returns whether the stream has ended. A read that is interrupted reads nothing.
-fn read_more<R: Hear>(reader: &mut R, got: &mut Vec<u8>) -> Result<bool, ReadError>
-    ensures { IfOk result (λ _.
+/// Reads a part of a reply, behind what was read. Fails with `Io` if the read fails otherwise than for want of time or
+/// by an interruption, and with `Memory` if memory runs out.
+pub fn hear_on<R: Hear>(
+    reader: &mut R,
+    got: &mut Vec<u8>,
+    extent: Extent,
+) -> Result<Came, ReadError>
+    ensures reads { IfOk result (λ _.
         spec.ReadsMore (R.account reader.old) (R.account reader.new) got.old.items got.new.items) }
+    ensures came { IfOk result (λ came.
+        spec.Comes extent came got.new.items (vec_len got.old) (vec_len got.new) (R.account reader.new)) }
+    ensures tried { IfOk result (λ _. spec.HasTried 1 (R.reads reader.old) (R.reads reader.new)) }
+    ensures late { IfOk result (λ came. came ≡ Came.Late
+        → (R.reads reader.old).failed < (R.reads reader.new).failed) }
+    ensures room { IfOk result (λ _. vec_capacity got.old ≤ vec_capacity got.new) }
+    ensures fails { IfErr result (λ why. why ≡ ReadError.Io
+        → (R.reads reader.old).failed < (R.reads reader.new).failed) }
+    ensures memory { IfErr result (λ why. why ≡ ReadError.Memory
+        → vec_capacity got.old < vec_len got.old + spec.most_read) }
 {
-    let mut chunk = [0; LONGEST_LINE + 1];
+    let mut chunk = [0; MOST_READ];
     match reader.hear(&mut chunk) {
-        Ok(0) => Ok(true),
+        Ok(0) => Ok(Came::All),
         Ok(n) => {
             got.extend_from_slice(&chunk[..n])?;
-            Ok(false)
+            Ok(came_with(got, extent))
         }
-        Err(e) if e.kind() == ErrorKind::Interrupted => Ok(false),
+        Err(e) if e.kind() == ErrorKind::Interrupted => Ok(Came::Interrupted),
+        Err(e) if is_late(&e) => Ok(Came::Late),
         Err(_) => Err(ReadError::Io),
     }
 }
 
-/// What a read of a line came to.
-#[derive(Clone, Copy, Debug, Drop, PartialEq, Eq)]
-pub enum Came {
-    /// The line has its end, or is too long, or the stream has ended.
-    Line,
-    /// More has to be read.
-    Part,
-    /// Nothing came in time, or the read was interrupted: Linux interrupts a read whose wait is bounded once its
-    /// process was stopped and goes on.
-    Nothing,
-}
-
-/// Reads once, after what was read. Fails with `Io` if the read fails otherwise than for want of time, and with
-/// `Memory` if memory runs out.
-pub fn hear_on<R: Hear>(reader: &mut R, got: &mut Vec<u8>) -> Result<Came, ReadError>
-    ensures { IfOk result (λ _.
-        spec.ReadsMore (R.account reader.old) (R.account reader.new) got.old.items got.new.items) }
+/// Whether all of a reply came with these bytes, or a part of it.
+fn came_with(bytes: &[u8], extent: Extent) -> Came
+    ensures { spec.ComesWith extent result bytes.now }
 {
-    let mut chunk = [0; LONGEST_LINE + 1];
-    match reader.hear(&mut chunk) {
-        Ok(0) => Ok(Came::Line),
-        Ok(n) => {
-            got.extend_from_slice(&chunk[..n])?;
-            Ok(if is_enough(got, LONGEST_LINE) {
-                Came::Line
+    match extent {
+        Extent::Line => {
+            if is_enough(bytes, LONGEST_OUTCOME) {
+                Came::All
             } else {
                 Came::Part
-            })
+            }
         }
-        Err(e) if is_late(&e) => Ok(Came::Nothing),
-        Err(_) => Err(ReadError::Io),
+        Extent::Stream => Came::Part,
     }
 }
 
-/// Whether a read failed because nothing came in time, or was interrupted.
+/// Whether a read failed because nothing came in time.
 fn is_late(error: &io::Error) -> bool {
-    matches!(
-        error.kind(),
-        ErrorKind::WouldBlock | ErrorKind::TimedOut | ErrorKind::Interrupted
-    )
+    matches!(error.kind(), ErrorKind::WouldBlock | ErrorKind::TimedOut)
 }
 
 /// Whether a line ends in these bytes, or would be too long.

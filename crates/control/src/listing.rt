@@ -1,5 +1,5 @@
 //! The lists that an operator gets: of keys, and of shelves.
-ghost use Rattle.std.specs.Prelude.{◌≡◌, IfOk, IfSome, IsTrue};
+ghost use Rattle.std.specs.Prelude.{◌≡◌, IfOk};
 ghost use Rattle.control.specs.Listing as spec;
 
 use crate::control_reply::ControlReply;
@@ -12,7 +12,7 @@ use world::bytes::Bytes;
 use world::registry::StoreFault;
 
 /// The line that ends a list. Each line of a list has a space, so none is this one.
-pub(crate) const LAST_LINE: &[u8] = b"done\n";
+const LAST_LINE: &[u8] = b"done\n";
 
 /// Reads a list of the store, and returns what the operator gets: the list and its last line. Returns `Outcome::Failed`
 /// if the store meets a fault or memory runs out.
@@ -25,8 +25,9 @@ pub(crate) fn list<S: Keyring>(alloc: Global, shelves: &mut S, listing: Listing)
     }
 }
 
-/// Returns a list of the store. Fails if the store meets a fault or memory runs out.
-fn read_list<S: Keyring>(
+/// Returns a list of the store, as an operator gets it and a command prints it. Fails if the store meets a fault or
+/// memory runs out.
+pub fn read_list<S: Keyring>(
     alloc: Global,
     shelves: &mut S,
     listing: Listing,
@@ -56,23 +57,4 @@ fn whole(alloc: Global, text: &[u8]) -> Result<Bytes, AllocError>
     let mut reply = Vec::from_slice(alloc, text)?;
     reply.extend_from_slice(LAST_LINE)?;
     Ok(Bytes::new(reply))
-}
-
-/// Returns the list that a reply has before its last line, or None if the reply is no whole list. That of a server that
-/// was cut off is none.
-pub(crate) fn list_in(got: &[u8]) -> Option<&[u8]>
-    ensures { IfSome result (λ text. spec.IsReplyOf got.now text.now) }
-{
-    let text = got.strip_suffix(LAST_LINE)?;
-    if are_lines(text) { Some(text) } else { None }
-}
-
-/// Whether the bytes are lines, each with its end.
-fn are_lines(text: &[u8]) -> bool
-    ensures { IsTrue result → spec.AreLines text.now }
-{
-    match text.strip_suffix(b"\n") {
-        Some(_) => true,
-        None => text.is_empty(),
-    }
 }

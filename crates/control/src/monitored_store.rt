@@ -1,13 +1,10 @@
 //! A store that is served, with what has to be said of it.
-ghost use Rattle.std.specs.Prelude.{◌≡◌, Err, IfNone, None, option_copied};
+ghost use Rattle.std.specs.Prelude.{◌≡◌, None, option_copied};
 ghost use Rattle.std.specs.FinMap as map;
 ghost use Rattle.control.specs.Metrics.{TellsKept};
-ghost use Rattle.control.specs.Noted.{IsAbout, NotesCommand, NotesCut, NotesFault, NotesPublish, NotesTold};
-ghost use Rattle.control.specs.Notices.{Catalogued, Copied};
-ghost use Rattle.control.specs.Traffic.{CountsIf, was_found, was_published};
-ghost use Rattle.control.specs.declared.copies.CatalogRefusal.TheVariants as catalog;
+ghost use Rattle.control.specs.Noted.{CountsIf, CountsOrNotes, CountsUnheld, CountsUnmet, NotesFault};
+ghost use Rattle.control.specs.Traffic.{was_found, was_published};
 ghost use Rattle.control.specs.declared.store_call.StoreCall.TheVariants as errand;
-ghost use Rattle.orders.specs.declared.command.RegistryCommand.TheVariants as command;
 ghost use Rattle.modver.specs.SemanticVersion.{version_text};
 ghost use Rattle.world.specs.Latest.{latest_of};
 ghost use Rattle.world.specs.Registry.{after_group_add, after_key_add, after_key_revoke, after_keys_revoke};
@@ -18,18 +15,14 @@ ghost use Rattle.world.specs.Versions.{versions_of};
 ghost use Rattle.world.specs.Visible.{paths_seen};
 ghost use Rattle.world.specs.World.{count, heading, place, view, with_entry};
 
-use crate::control_reply::ControlReply;
-use crate::copies::{CatalogRefusal, CopyRefusal};
 use crate::health::Metrics;
-use crate::notice::{Notice, answered, catalogued, copied, met, ordered};
+use crate::notice::{Noted, met};
 use crate::store_call::StoreCall;
 use crate::traffic::{Traffic, Transfer};
-use engine::Io;
 use interleave::between::CopyProgress;
 use keyring::Keyring;
 use modpath::ModulePath;
 use modver::{TimeText, Version};
-use orders::RegistryCommand;
 use std::alloc::Global;
 use std::marker::{Brand, PhantomData};
 use text::Text;
@@ -52,15 +45,13 @@ impl Loan for Brand {
     ghost name = { 0 };
 }
 
-/// A store that is lent, and the notice of the last order that it carried out, or of the last fault that it met for a
-/// request. It answers as the store inside does, and counts the publishes and fetches of each shelf.
+/// A store that is lent, and what is noted of the last fault that it met for a request. It answers as the store inside
+/// does, and counts the publishes and fetches of each shelf.
 #[derive(Drop)]
 pub(crate) struct MonitoredStore<'a, N: Loan, S: Shelves> {
     alloc: Global,
     pub(crate) inner: &'a mut S,
-    notice: Option<Notice>,
-    /// What replaces the notice of a catalog if the operator is not told how that ended.
-    if_cut: Option<Notice>,
+    notice: Option<Noted>,
     pub(crate) traffic: Traffic,
     /// When the last copy was made, if one was and the time could be read then.
     pub(crate) copied: Option<TimeText>,
@@ -79,13 +70,11 @@ impl<'a, N: Loan, S: Shelves> MonitoredStore<'a, N, S> {
         ensures counts { result.traffic.shelves ≡ map.empty }
         ensures copied { result.copied ≡ None }
         ensures unnoted { result.notice ≡ None }
-        ensures uncut { result.if_cut ≡ None }
     {
         MonitoredStore {
             alloc,
             inner,
             notice: None,
-            if_cut: None,
             traffic: Traffic::new(alloc),
             copied: None,
             is_held: false,
@@ -101,46 +90,14 @@ impl<'a, N: Loan, S: Shelves> MonitoredStore<'a, N, S> {
         self.inner
     }
 
-    /// Returns the notice, if there is one, and forgets it.
-    pub(crate) fn take(&mut self) -> Option<Notice>
+    /// Returns what is noted, if something is, and forgets it.
+    pub(crate) fn take(&mut self) -> Option<Noted>
         ensures same { self.new.inner ≡ self.old.inner }
         ensures counts { self.new.traffic ≡ self.old.traffic }
         ensures value { result ≡ self.old.notice }
         ensures forgets { self.new.notice ≡ None }
-        ensures forgets_cut { self.new.if_cut ≡ None }
     {
-        self.if_cut = None;
         self.notice.take()
-    }
-
-    /// Notes what an operator was told, unless the order that did it is noted. Of a catalog whose operator was not told
-    /// how it ended, it notes that. A list and the line of a ping are not noted: they change nothing.
-    pub(crate) fn note_told(&mut self, told: &Result<ControlReply, Io>)
-        ensures same { self.new.inner ≡ self.old.inner }
-        ensures counts { self.new.traffic ≡ self.old.traffic }
-        ensures noted { NotesTold told.now self.old.if_cut self.old.notice self.new.notice }
-    {
-        if told.is_err() {
-            self.note_cut();
-            return;
-        }
-        if self.notice.is_some() {
-            return;
-        }
-        if let Ok(ControlReply::Outcome(outcome)) = told {
-            self.notice = answered(self.alloc, *outcome).ok();
-        }
-    }
-
-    /// Notes that an operator was not told how its catalog ended, if it asked for one.
-    fn note_cut(&mut self)
-        ensures same { self.new.inner ≡ self.old.inner }
-        ensures counts { self.new.traffic ≡ self.old.traffic }
-        ensures noted { NotesCut self.old.if_cut self.old.notice self.new.notice }
-    {
-        if let Some(notice) = self.if_cut.take() {
-            self.notice = Some(notice);
-        }
     }
 
     /// Notes the fault of a call, if it met one.
@@ -150,44 +107,7 @@ impl<'a, N: Loan, S: Shelves> MonitoredStore<'a, N, S> {
         ensures noted { NotesFault errand.now told.now self.old.notice self.new.notice }
     {
         if let Err(fault) = told {
-            self.notice = met(self.alloc, errand, *fault).ok();
-        }
-    }
-
-    /// Notes a registry command that was carried out.
-    fn note_command(&mut self, command: &RegistryCommand, told: Result<RegistryReply, StoreFault>)
-        ensures same { self.new.inner ≡ self.old.inner }
-        ensures counts { self.new.traffic ≡ self.old.traffic }
-        ensures noted { NotesCommand command.now told self.new.notice }
-    {
-        self.notice = ordered(self.alloc, command, told).ok();
-    }
-
-    /// Notes a copy that was ordered.
-    pub(crate) fn note_copy(&mut self, path: &str, told: Result<(), CopyRefusal>)
-        ensures same { self.new.inner ≡ self.old.inner }
-        ensures counts { self.new.traffic ≡ self.old.traffic }
-        ensures time { self.new.copied ≡ self.old.copied }
-        ensures noted { IsAbout (Copied path.now told) self.new.notice }
-    {
-        self.notice = copied(self.alloc, path, told).ok();
-    }
-
-    /// Notes a catalog that was asked for, and what to note in its place if the operator is not told how it ended.
-    pub(crate) fn note_catalog(&mut self, key: &str, told: Result<(), CatalogRefusal>)
-        ensures same { self.new.inner ≡ self.old.inner }
-        ensures counts { self.new.traffic ≡ self.old.traffic }
-        ensures time { self.new.copied ≡ self.old.copied }
-        ensures noted { IsAbout (Catalogued key.now told) self.new.notice }
-        ensures cut { IsAbout (Catalogued key.now (Err catalog.Output)) self.new.if_cut }
-        // If memory ran out for that, there is no notice that it could replace.
-        ensures both { IfNone self.new.if_cut (self.new.notice ≡ None) }
-    {
-        self.notice = None;
-        self.if_cut = None;
-        if let Ok(cut) = catalogued(self.alloc, key, Err(CatalogRefusal::Output)) {
-            self.if_cut = Some(cut);
-            self.notice = catalogued(self.alloc, key, told).ok();
+            self.notice = Some(met(self.alloc, errand, *fault));
         }
     }
 
@@ -217,26 +137,37 @@ impl<'a, N: Loan, S: Shelves> MonitoredStore<'a, N, S> {
         }
     }
 
+    /// Counts one transfer of a shelf. If memory runs out for the counts of the shelf, that is noted.
+    fn count_one(&mut self, shelf: &str, transfer: Transfer)
+        ensures same { self.new.inner ≡ self.old.inner }
+        ensures counts { CountsOrNotes transfer shelf.now self.old.traffic self.new.traffic
+            self.old.notice self.new.notice }
+    {
+        match self.traffic.count(self.alloc, shelf, transfer) {
+            Ok(()) => {}
+            Err(why) => self.notice = Some(Err(why)),
+        }
+    }
+
     /// Counts a fetch of a shelf if its zip was found.
     fn count_fetch(&mut self, shelf: &str, told: &Result<Option<Seen>, StoreFault>)
         ensures same { self.new.inner ≡ self.old.inner }
-        ensures noted { self.new.notice ≡ self.old.notice }
-        ensures counts { CountsIf (was_found told.now) Transfer.Fetch shelf.now self.old.traffic self.new.traffic }
+        ensures counts { CountsIf (was_found told.now) Transfer.Fetch shelf.now self.old.traffic self.new.traffic
+            self.old.notice self.new.notice }
     {
         if let Ok(Some(_)) = told {
-            let _ = self.traffic.count(self.alloc, shelf, Transfer::Fetch);
+            self.count_one(shelf, Transfer::Fetch);
         }
     }
 
     /// Counts a publish to a shelf if the store kept it.
     fn count_publish(&mut self, shelf: &str, told: &Result<(), StoreFault>)
         ensures same { self.new.inner ≡ self.old.inner }
-        ensures noted { self.new.notice ≡ self.old.notice }
         ensures counts { CountsIf (was_published told.now) Transfer.Publish shelf.now
-            self.old.traffic self.new.traffic }
+            self.old.traffic self.new.traffic self.old.notice self.new.notice }
     {
         if let Ok(()) = told {
-            let _ = self.traffic.count(self.alloc, shelf, Transfer::Publish);
+            self.count_one(shelf, Transfer::Publish);
         }
     }
 }
@@ -267,9 +198,8 @@ impl<'a, N: Loan, S: Shelves> Shelves for MonitoredStore<'a, N, S> {
     ) -> Result<Option<Seen>, StoreFault>
         ensures reads { Reads (S.shown self.old.inner.now) (S.shown self.new.inner.now) result
             (λ w. view w shelf.now path.now (version_text version.now)) }
-        ensures counts { CountsIf (was_found result) Transfer.Fetch shelf.now self.old.traffic self.new.traffic }
-        ensures noted { NotesFault (errand.FetchVersion path.entry version.entry) result
-            self.old.notice self.new.notice }
+        ensures counts { CountsUnmet (was_found result) (errand.FetchVersion path.entry version.entry) result
+            Transfer.Fetch shelf.now self.old.traffic self.new.traffic self.old.notice self.new.notice }
     {
         let told = self.inner.entry(shelf, path, version);
         self.note_fault(&StoreCall::FetchVersion { path, version }, &told);
@@ -366,9 +296,8 @@ impl<'a, N: Loan, S: Shelves> Shelves for MonitoredStore<'a, N, S> {
         ensures does { DoesWhere (λ w. IsRoomFor w (place shelf.now path.now (version_text version.now)) entry.now)
             (S.shown self.old.inner.now) (S.shown self.new.inner.now) result (λ _. tt)
             (λ w. with_entry w (place shelf.now path.now (version_text version.now)) entry.now) }
-        ensures counts { CountsIf (was_published result) Transfer.Publish shelf.now self.old.traffic self.new.traffic }
-        ensures noted { NotesPublish self.old.is_held (errand.PublishVersion path.entry version.entry) result
-            self.old.notice self.new.notice }
+        ensures counts { CountsUnheld self.old.is_held (errand.PublishVersion path.entry version.entry) result
+            shelf.now self.old.traffic self.new.traffic self.old.notice self.new.notice }
     {
         if self.is_held {
             // No disk failed, so this is not `Device`.
@@ -386,11 +315,9 @@ impl<'a, N: Loan, S: Shelves> Shelves for MonitoredStore<'a, N, S> {
             (λ w. after_team_add w name.now (option_copied group.entry)
             (team_added w name.now (option_copied group.entry))) }
         ensures counts { self.new.traffic ≡ self.old.traffic }
-        ensures noted { NotesCommand (command.TeamAdd name.entry group.entry) result self.new.notice }
+        ensures noted { self.new.notice ≡ self.old.notice }
     {
-        let told = self.inner.team_add(name, group);
-        self.note_command(&RegistryCommand::TeamAdd { name, group }, told);
-        told
+        self.inner.team_add(name, group)
     }
 
     fn group_add(&mut self, name: &str) -> Result<RegistryReply, StoreFault>
@@ -398,11 +325,9 @@ impl<'a, N: Loan, S: Shelves> Shelves for MonitoredStore<'a, N, S> {
             (λ w. group_added w name.now)
             (λ w. after_group_add w name.now (group_added w name.now)) }
         ensures counts { self.new.traffic ≡ self.old.traffic }
-        ensures noted { NotesCommand (command.GroupAdd name.entry) result self.new.notice }
+        ensures noted { self.new.notice ≡ self.old.notice }
     {
-        let told = self.inner.group_add(name);
-        self.note_command(&RegistryCommand::GroupAdd { name }, told);
-        told
+        self.inner.group_add(name)
     }
 
     fn key_add(&mut self, shelf: &str, key: &str, right: Right) -> Result<RegistryReply, StoreFault>
@@ -410,11 +335,9 @@ impl<'a, N: Loan, S: Shelves> Shelves for MonitoredStore<'a, N, S> {
             (λ w. key_added w shelf.now key.now)
             (λ w. after_key_add w shelf.now key.now right (key_added w shelf.now key.now)) }
         ensures counts { self.new.traffic ≡ self.old.traffic }
-        ensures noted { NotesCommand (command.KeyAdd shelf.entry key.entry right) result self.new.notice }
+        ensures noted { self.new.notice ≡ self.old.notice }
     {
-        let told = self.inner.key_add(shelf, key, right);
-        self.note_command(&RegistryCommand::KeyAdd { shelf, key, right }, told);
-        told
+        self.inner.key_add(shelf, key, right)
     }
 
     fn key_revoke(&mut self, key: &str) -> Result<RegistryReply, StoreFault>
@@ -422,11 +345,9 @@ impl<'a, N: Loan, S: Shelves> Shelves for MonitoredStore<'a, N, S> {
             (λ w. key_revoked w key.now)
             (λ w. after_key_revoke w key.now (key_revoked w key.now)) }
         ensures counts { self.new.traffic ≡ self.old.traffic }
-        ensures noted { NotesCommand (command.KeyRevoke key.entry) result self.new.notice }
+        ensures noted { self.new.notice ≡ self.old.notice }
     {
-        let told = self.inner.key_revoke(key);
-        self.note_command(&RegistryCommand::KeyRevoke { key }, told);
-        told
+        self.inner.key_revoke(key)
     }
 
     fn keys_revoke(&mut self, shelf: &str) -> Result<RegistryReply, StoreFault>
@@ -434,11 +355,9 @@ impl<'a, N: Loan, S: Shelves> Shelves for MonitoredStore<'a, N, S> {
             (λ w. keys_revoked w shelf.now)
             (λ w. after_keys_revoke w shelf.now (keys_revoked w shelf.now)) }
         ensures counts { self.new.traffic ≡ self.old.traffic }
-        ensures noted { NotesCommand (command.KeysRevoke shelf.entry) result self.new.notice }
+        ensures noted { self.new.notice ≡ self.old.notice }
     {
-        let told = self.inner.keys_revoke(shelf);
-        self.note_command(&RegistryCommand::KeysRevoke { shelf }, told);
-        told
+        self.inner.keys_revoke(shelf)
     }
 
     ghost sound = { λ w. S.sound w.inner.now };

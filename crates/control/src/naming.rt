@@ -2,6 +2,8 @@
 ghost use Rattle.control.specs.Naming.{RevokesNamed};
 
 use crate::carry::carry_out_in;
+use crate::notice::ordered;
+use crate::obeying::Done;
 use crate::outcome::outcome_of;
 use crate::reserve::Reserve;
 use keyring::Keyring;
@@ -12,21 +14,31 @@ use world::registry::RegistryReply;
 
 /// Looks up the key that has a fingerprint or a SHA-256, carries out the registry command that revokes it, with the
 /// reserve if that needs room, and returns the outcome: that of `RegistryReply::NoKey` if no key has it or several
-/// have, and `Outcome::Failed` if the store meets a fault or memory runs out.
+/// have, and `Outcome::Failed` if the store meets a fault or memory runs out. A registry command is noted.
 pub(crate) fn revoke_by_fingerprint<S: Keyring, R: Reserve<S>>(
     alloc: Global,
     shelves: &mut S,
     reserve: &mut R,
     fingerprint: &str,
-) -> Outcome
-    ensures { RevokesNamed (S.shown shelves.old) (S.shown shelves.new) fingerprint.now result }
+) -> Done<Outcome>
+    ensures { RevokesNamed (S.shown shelves.old) (S.shown shelves.new) fingerprint.now result.told result.noted }
 {
     match key_with(alloc, shelves, fingerprint) {
         Ok(Some(key)) => {
             let key = key.as_str();
-            outcome_of(carry_out_in(shelves, reserve, &RegistryCommand::KeyRevoke { key }))
+            let told = carry_out_in(shelves, reserve, &RegistryCommand::KeyRevoke { key });
+            Done {
+                told: outcome_of(told),
+                noted: Some(ordered(alloc, &RegistryCommand::KeyRevoke { key }, told)),
+            }
         }
-        Ok(None) => Outcome::RegistryReply(RegistryReply::NoKey),
-        Err(fault) => Outcome::Failed(fault),
+        Ok(None) => Done {
+            told: Outcome::RegistryReply(RegistryReply::NoKey),
+            noted: None,
+        },
+        Err(fault) => Done {
+            told: Outcome::Failed(fault),
+            noted: None,
+        },
     }
 }

@@ -18,12 +18,13 @@ use world::registry::{RegistryReply, StoreFault};
 /// What a store answered to a registry command.
 pub(crate) type Answer = Result<RegistryReply, StoreFault>;
 
+/// A notice, or that memory ran out for it.
+pub type Noted = Result<Notice, AllocError>;
+
 /// A line that says what happened, with its end. In the place of a key stands its fingerprint.
 #[derive(Drop)]
 pub struct Notice {
     text: Text,
-    /// Whether it tells of a fault of the store.
-    is_fault: bool,
     ghost is: { spec.IsNotice text },
 }
 
@@ -35,19 +36,13 @@ impl Notice {
         self.text.as_str()
     }
 
-    /// Whether it tells of a fault of the store.
-    pub(crate) fn is_fault(&self) -> bool {
-        self.is_fault
-    }
-
     /// Returns the notice of a line.
-    fn of(line: String, is_fault: bool) -> Notice
+    fn of(line: String) -> Notice
         requires { spec.IsNotice (string_bytes line) }
         ensures { result.text ≡ string_bytes line }
     {
         Notice {
             text: Text::new(line),
-            is_fault,
         }
     }
 }
@@ -72,7 +67,7 @@ fn opened_with(alloc: Global, file: &str, versions: u64) -> Result<Notice, Alloc
     ensures { IfOk result (λ notice. notice.text ≡ spec.line_of (Opened file.now versions)) }
 {
     let line = format!(in alloc; "opened: {}: {} versions\n", plain(file), versions)?;
-    Ok(Notice::of(line, false))
+    Ok(Notice::of(line))
 }
 
 /// Says that the store of a file was opened, and by which fault its versions can't be counted. Fails only if memory
@@ -81,7 +76,7 @@ fn uncounted(alloc: Global, file: &str, fault: StoreFault) -> Result<Notice, All
     ensures { IfOk result (λ notice. notice.text ≡ spec.line_of (Uncounted file.now fault)) }
 {
     let line = outcome_line(alloc, "opened: ", plain(file), Outcome::Failed(fault))?;
-    Ok(Notice::of(line, false))
+    Ok(Notice::of(line))
 }
 
 /// Says that the store of a file is no longer served. Fails only if memory runs out.
@@ -89,7 +84,7 @@ pub fn ended(alloc: Global, file: &str) -> Result<Notice, AllocError>
     ensures { IfOk result (λ notice. notice.text ≡ spec.line_of (Ended file.now)) }
 {
     let line = format!(in alloc; "ended: {}\n", plain(file))?;
-    Ok(Notice::of(line, false))
+    Ok(Notice::of(line))
 }
 
 /// Says what came of a registry command that was carried out. It names only shelves that the store then has, as far as
@@ -103,7 +98,7 @@ pub(crate) fn ordered(
 {
     let words = shown_words(alloc, command, told)?;
     let line = outcome_line(alloc, "order: ", words.as_str(), outcome_of(told))?;
-    Ok(Notice::of(line, false))
+    Ok(Notice::of(line))
 }
 
 /// Says what came of a copy. Fails only if memory runs out.
@@ -116,7 +111,7 @@ pub(crate) fn copied(
 {
     let words = two(alloc, "copy ", plain(path))?;
     let line = outcome_line(alloc, "order: ", words.as_str(), outcome_of_copy(told))?;
-    Ok(Notice::of(line, false))
+    Ok(Notice::of(line))
 }
 
 /// Says what came of the catalog of a key, with its fingerprint in its place. Fails only if memory runs out.
@@ -130,7 +125,7 @@ pub(crate) fn catalogued(
     let named = fingerprint(alloc, key)?;
     let words = two(alloc, "catalog ", named.as_str())?;
     let line = outcome_line(alloc, "order: ", words.as_str(), outcome_of_catalog(told))?;
-    Ok(Notice::of(line, false))
+    Ok(Notice::of(line))
 }
 
 /// Says what an operator was told whose order did nothing. Fails only if memory runs out.
@@ -138,7 +133,7 @@ pub(crate) fn answered(alloc: Global, told: Outcome) -> Result<Notice, AllocErro
     ensures { IfOk result (λ notice. notice.text ≡ spec.line_of (Answered told)) }
 {
     let line = two(alloc, "order: ", told.line())?;
-    Ok(Notice::of(line, false))
+    Ok(Notice::of(line))
 }
 
 /// Says whether all of the room on the disk that is kept for orders is there. Fails only if memory runs out.
@@ -146,7 +141,7 @@ pub fn reserved(alloc: Global, has_room: bool) -> Result<Notice, AllocError>
     ensures { IfOk result (λ notice. notice.text ≡ spec.line_of (Reserved (spec.room_told has_room))) }
 {
     let line = two(alloc, "reserve: ", room_told(has_room).line())?;
-    Ok(Notice::of(line, false))
+    Ok(Notice::of(line))
 }
 
 /// Returns the outcome of keeping room.
@@ -170,7 +165,7 @@ pub(crate) fn met(
 {
     let words = errand.words(alloc)?;
     let line = outcome_line(alloc, "fault: ", words.as_str(), Outcome::Failed(fault))?;
-    Ok(Notice::of(line, true))
+    Ok(Notice::of(line))
 }
 
 /// Returns a line of a word, a text and an outcome. Fails only if memory runs out.

@@ -15,7 +15,8 @@ ghost use Rattle.control.specs.ControlReply.{bytes_told};
 use crate::control_reply::ControlReply;
 use crate::copies::CopyOrders;
 use crate::line::{ReadError, read_line};
-use crate::obeying::{answer, print_for, tell};
+use crate::notice::Noted;
+use crate::obeying::{Done, answer, print_for, tell};
 use crate::patience::ForOrder;
 use crate::tally::Tally;
 use engine::Io;
@@ -31,11 +32,12 @@ use std::marker::Brand;
 use std::time::Clock;
 use world::registry::StoreFault;
 
-/// An operator after its order was carried out, and the result.
+/// An operator after its order was carried out, the result, and what is noted of what was done.
 #[derive(Drop)]
 pub struct Obeyed<O> {
     pub operator: O,
     pub told: Result<ControlReply, Io>,
+    pub noted: Option<Noted>,
 }
 
 /// An operator who has connected.
@@ -70,8 +72,8 @@ pub trait Operator {
     /// The calls that bear on how long a write to it waits, the last of them first.
     ghost write_calls: { Self → List Call };
 
-    /// Reads its line, does what that orders, writes what came of it, flushes that, and returns it; `copies` makes
-    /// copies.
+    /// Reads its line, does what that orders, writes what came of it, flushes that, and returns it, with what is noted
+    /// of what was done; `copies` makes copies.
     ///
     /// `Outcome::Stopping`: the server is to end. `ControlReply::Health`: the line is a ping, which gets the tally, the
     /// failures of the store, and the versions and the figures that `copies` has of it. `ControlReply::List`: the line
@@ -92,7 +94,7 @@ pub trait Operator {
         Self: Sized,
         ensures obeys { ObeysBy S.shown K.made K.counted K.meanwhile tally.now copies.old copies.new
             shelves.old shelves.new (came self) (came result.operator) (written self) (written result.operator)
-            result.told }
+            result.told result.noted }
         // A ping is told what `copies` knows of the store, and nothing else.
         ensures figures { IfOk result.told (TellsPing (K.figured copies.old shelves.new) (IsPinged tally.now
             (S.shown shelves.old).failures (S.shown shelves.new).failures (K.counted shelves.old shelves.new))) }
@@ -158,7 +160,7 @@ fn obey_since<
         shelves.old shelves.new
         (⟦<Hearing<R> as Hear>⟧.account operator.reader) (⟦<Hearing<R> as Hear>⟧.account result.operator.reader)
         (⟦<Telling<W> as Write>⟧.contents operator.writer) (⟦<Telling<W> as Write>⟧.contents result.operator.writer)
-        result.told }
+        result.told result.noted }
     ensures figures { IfOk result.told (TellsPing (K.figured copies.old shelves.new) (IsPinged tally.now
         (S.shown shelves.old).failures (S.shown shelves.new).failures (K.counted shelves.old shelves.new))) }
     ensures cause { IfErr result.told (IsCausedIn most_tries
@@ -175,19 +177,24 @@ fn obey_since<
     let mut line: DeadlineReader<'_, C, ForOrder, I, R> = DeadlineReader::new(reader, clock);
     let got = read_line(alloc, &mut line);
     let reader = line.into_inner();
-    let (writer, told) = match got {
+    let (writer, done) = match got {
         Ok(got) => answer_since::<C, J, W, S, K>(
             alloc, clock, writer, &got, tally, shelves, copies,
         ),
-        Err(ReadError::Io) => (writer, Err(Io::Read)),
+        Err(ReadError::Io) => {
+            let told = Err(Io::Read);
+            (writer, Done { told, noted: None })
+        }
         Err(ReadError::Memory) => {
             let told = ControlReply::Outcome(Outcome::Failed(StoreFault::Memory));
-            tell_since::<C, J, W>(clock, writer, told)
+            let (writer, told) = tell_since::<C, J, W>(clock, writer, told);
+            (writer, Done { told, noted: None })
         }
     };
     Obeyed {
         operator: Connection { reader, writer },
-        told,
+        told: done.told,
+        noted: done.noted,
     }
 }
 
@@ -201,19 +208,20 @@ fn answer_since<C: Clock, J: Start, W: BoundWrite + Drop, S: Keyring, K: CopyOrd
     tally: &Tally,
     shelves: &mut S,
     copies: &mut K,
-) -> (Telling<W>, Result<ControlReply, Io>)
+) -> (Telling<W>, Done<Result<ControlReply, Io>>)
     requires { ⟦<Telling<W> as HasCalls>⟧.calls writer ≡ J.calls }
     ensures obeys { (came came_new : Account) → ReadsLine came came_new got.now
         → ObeysBy S.shown K.made K.counted K.meanwhile tally.now copies.old copies.new
         shelves.old shelves.new came came_new
-        (⟦<Telling<W> as Write>⟧.contents writer) (⟦<Telling<W> as Write>⟧.contents result.0) result.1 }
-    ensures figures { IfOk result.1 (TellsPing (K.figured copies.old shelves.new) (IsPinged tally.now
+        (⟦<Telling<W> as Write>⟧.contents writer) (⟦<Telling<W> as Write>⟧.contents result.0)
+        result.1.told result.1.noted }
+    ensures figures { IfOk result.1.told (TellsPing (K.figured copies.old shelves.new) (IsPinged tally.now
         (S.shown shelves.old).failures (S.shown shelves.new).failures (K.counted shelves.old shelves.new))) }
     // It fails only if a write or the flush failed.
-    ensures which { IfErr result.1 (λ e. e ≡ Io.Write) }
+    ensures which { IfErr result.1.told (λ e. e ≡ Io.Write) }
     ensures fails { FailsWith (⟦<Telling<W> as Tell>⟧.writes writer).failed
-        (⟦<Telling<W> as Tell>⟧.writes result.0).failed result.1 }
-    ensures flushed { IfOk result.1 (λ _. (⟦<Telling<W> as Tell>⟧.writes result.0).unflushed ≡ []) }
+        (⟦<Telling<W> as Tell>⟧.writes result.0).failed result.1.told }
+    ensures flushed { IfOk result.1.told (λ _. (⟦<Telling<W> as Tell>⟧.writes result.0).unflushed ≡ []) }
     ensures in_time { KeepsTime time_for_order J.calls (⟦<Telling<W> as HasCalls>⟧.calls result.0)
         ⊎ ((key : List ℕ) × IsLineOf got.now (Catalog key)
         × KeepsEach time_for_order J.calls (⟦<Telling<W> as HasCalls>⟧.calls result.0)) }

@@ -6,12 +6,14 @@ ghost use Rattle.control.specs.Notices.{WritesNotices};
 ghost use Rattle.control.specs.Progress.{IsGoing, IsOver};
 ghost use Rattle.control.specs.Serving.{Serves};
 ghost use Rattle.control.specs.Tasks.{GoesOn};
+ghost use Rattle.control.specs.Traces.{TracesEach};
 ghost use Rattle.control.specs.Visits.{EndsEach, ReadsEach, ServesEach};
 ghost use Rattle.socket.specs.declared.callers.Caller.{Caller};
 ghost use Rattle.socket.specs.declared.callers.Caller.TheVariants.{Operator};
 
 use crate::copies::Copies;
 use crate::monitored_store::{Loan, MonitoredStore};
+use crate::obeying::note_told;
 use crate::operator::Operator;
 use crate::serving::{Server, is_stopping};
 use crate::wall_clock::WallClock;
@@ -77,6 +79,13 @@ pub fn serve_both<
         shelves.old shelves.new since connections }
     // Only notices are written to `errors`.
     ensures notes { WritesNotices (E.contents errors.old) (E.contents errors.new) }
+    // Each order has a line of its own there, that of its notice or one which says that memory ran out for it, unless a
+    // write or a flush failed.
+    ensures traces { TracesEach (both O.came O.reads) (both O.written O.writes)
+        (both P.came P.reads) (both P.written P.writes) S.shown K.made K.counted L.is_new
+        (both L.waiting L.history callers.old) (both L.waiting L.history callers.new)
+        shelves.old shelves.new since connections
+        (both E.contents E.writes errors.old) (both E.contents E.writes errors.new) }
 {
     let _lent = serve_lent::<C, P, O, L, S, K, D, E, Brand>(
         alloc,
@@ -140,6 +149,11 @@ fn serve_lent<
         (both L.waiting L.history callers.old) (both L.waiting L.history result.callers.now)
         shelves.old result.shelves.now since connections }
     ensures notes { WritesNotices (E.contents errors.old) (E.contents result.errors.now) }
+    ensures traces { TracesEach (both O.came O.reads) (both O.written O.writes)
+        (both P.came P.reads) (both P.written P.writes) S.shown K.made K.counted L.is_new
+        (both L.waiting L.history callers.old) (both L.waiting L.history result.callers.now)
+        shelves.old result.shelves.now since connections
+        (both E.contents E.writes errors.old) (both E.contents E.writes result.errors.now) }
 {
     let mut server = Server::new(
         alloc,
@@ -180,7 +194,8 @@ impl<
         ensures serves { Serves (both O.came O.reads) (both O.written O.writes)
             (both P.came P.reads) (both P.written P.writes) L.is_new S.shown K.made K.counted false
             (both L.waiting L.history self.old.callers.now) (both L.waiting L.history self.new.callers.now)
-            self.old.progress self.new.progress watched.old.inner.now watched.new.inner.now }
+            self.old.progress self.new.progress (both E.contents E.writes self.old.errors.now)
+            (both E.contents E.writes self.new.errors.now) watched.old.inner.now watched.new.inner.now }
         ensures over { IsOver self.new.progress.stops self.new.progress.left self.new.progress.taken }
         ensures same { self.new.callers.ghost_name ≡ self.old.callers.ghost_name }
         ensures same_errors { self.new.errors.ghost_name ≡ self.old.errors.ghost_name }
@@ -209,8 +224,9 @@ impl<
             → L.is_new (Operator operator)
             → Serves (both O.came O.reads) (both O.written O.writes)
             (both P.came P.reads) (both P.written P.writes) L.is_new S.shown K.made K.counted false
-            door (both L.waiting L.history self.new.callers.now)
-            self.old.progress self.new.progress watched.old.inner.now watched.new.inner.now }
+            door (both L.waiting L.history self.new.callers.now) self.old.progress self.new.progress
+            (both E.contents E.writes self.old.errors.now) (both E.contents E.writes self.new.errors.now)
+            watched.old.inner.now watched.new.inner.now }
         ensures taken { self.old.progress.taken + 1 ≤ self.new.progress.taken }
         ensures same { self.new.callers.ghost_name ≡ self.old.callers.ghost_name }
         ensures same_errors { self.new.errors.ghost_name ≡ self.old.errors.ghost_name }
@@ -219,9 +235,9 @@ impl<
         self.progress.count_operator();
         let (alloc, clock, tally) = (self.alloc, self.clock, self.progress.tally);
         let after = operator.obeyed(alloc, clock, &tally, watched, self);
-        watched.note_told(&after.told);
+        let noted = note_told(alloc, after.noted, &after.told);
         self.progress.end_if(is_stopping(after.told));
-        self.tell(watched);
+        self.tell(noted);
         self.callers.end_operator(after.operator);
     }
 }

@@ -1,19 +1,20 @@
 //! A server: it takes callers, answers peers and carries out the orders of operators.
-ghost use Rattle.std.specs.Prelude.{◌≡◌, ◌↔◌, [], false, IsTrue, Ok};
+ghost use Rattle.std.specs.Prelude.{◌≡◌, ◌↔◌, [], false, IsTrue, None, Ok};
 ghost use Rattle.socket.specs.Connections.{both};
 ghost use Rattle.control.specs.Health.{tally_of};
-ghost use Rattle.control.specs.Notices.{WritesNotices};
+ghost use Rattle.control.specs.Noted.{AreUnheld, BeginsWith};
+ghost use Rattle.control.specs.Notices.{AreAny, WritesLines, WritesNotices};
 ghost use Rattle.control.specs.Progress.{IsGoing};
 ghost use Rattle.control.specs.Visits.{AnswersOne};
 
 use crate::control_reply::ControlReply;
 use crate::faults::RecentFaults;
 use crate::monitored_store::{Loan, MonitoredStore};
-use crate::notice::reserved;
+use crate::notice::{Noted, reserved};
 use crate::operator::Operator;
 use crate::progress::Progress;
 use crate::reserve::{KeepsRoom, Room};
-use crate::telling::{tell, tell_next};
+use crate::telling::{tell, tell_if, tell_next};
 use crate::traffic::Traffic;
 use crate::wall_clock::WallClock;
 use engine::Io;
@@ -127,6 +128,9 @@ impl<
             self.old.progress self.new.progress (S.shown watched.old.inner.now) (S.shown watched.new.inner.now) }
         ensures same { self.new.callers.ghost_name ≡ self.old.callers.ghost_name }
         ensures notes { WritesNotices (E.contents self.old.errors.now) (E.contents self.new.errors.now) }
+        // Lines are written whole, unless a write or a flush failed.
+        ensures tells { WritesLines AreAny
+            (both E.contents E.writes self.old.errors.now) (both E.contents E.writes self.new.errors.now) }
         ensures same_errors { self.new.errors.ghost_name ≡ self.old.errors.ghost_name }
     {
         self.keep_room_unless_whole();
@@ -139,15 +143,16 @@ impl<
         self.tell_of(watched);
     }
 
-    /// Writes what has to be said of the store after an order, and of the room on its disk.
-    pub(crate) fn tell<N: Loan, S: Shelves>(&mut self, watched: &mut MonitoredStore<'_, N, S>)
+    /// Writes what is noted of an order, if something is, and then what has to be said of the room on the disk.
+    pub(crate) fn tell(&mut self, noted: Option<Noted>)
         ensures same { self.new.callers ≡ self.old.callers }
         ensures progress { self.new.progress ≡ self.old.progress }
-        ensures store { watched.new.inner ≡ watched.old.inner }
         ensures notes { WritesNotices (E.contents self.old.errors.now) (E.contents self.new.errors.now) }
+        ensures tells { WritesLines (BeginsWith noted)
+            (both E.contents E.writes self.old.errors.now) (both E.contents E.writes self.new.errors.now) }
         ensures same_errors { self.new.errors.ghost_name ≡ self.old.errors.ghost_name }
     {
-        self.tell_of(watched);
+        tell_if(noted, self.errors);
         self.keep_room_and_tell();
     }
 
@@ -156,13 +161,16 @@ impl<
         ensures same { self.new.callers ≡ self.old.callers }
         ensures progress { self.new.progress ≡ self.old.progress }
         ensures notes { WritesNotices (E.contents self.old.errors.now) (E.contents self.new.errors.now) }
+        ensures tells { WritesLines AreAny
+            (both E.contents E.writes self.old.errors.now) (both E.contents E.writes self.new.errors.now) }
         ensures same_errors { self.new.errors.ghost_name ≡ self.old.errors.ghost_name }
     {
         let room = self.copies.keep_room();
-        if room != self.room {
-            self.room = room;
-            tell(reserved(self.alloc, room == Room::Whole), self.errors);
+        if room == self.room {
+            return;
         }
+        self.room = room;
+        tell(reserved(self.alloc, room == Room::Whole), self.errors);
     }
 
     /// Does so unless all of it was there when it was last looked for.
@@ -170,11 +178,14 @@ impl<
         ensures same { self.new.callers ≡ self.old.callers }
         ensures progress { self.new.progress ≡ self.old.progress }
         ensures notes { WritesNotices (E.contents self.old.errors.now) (E.contents self.new.errors.now) }
+        ensures tells { WritesLines AreAny
+            (both E.contents E.writes self.old.errors.now) (both E.contents E.writes self.new.errors.now) }
         ensures same_errors { self.new.errors.ghost_name ≡ self.old.errors.ghost_name }
     {
-        if self.room != Room::Whole {
-            self.keep_room_and_tell();
+        if self.room == Room::Whole {
+            return;
         }
+        self.keep_room_and_tell();
     }
 
     /// Writes what has to be said of the store.
@@ -182,7 +193,10 @@ impl<
         ensures same { self.new.callers ≡ self.old.callers }
         ensures progress { self.new.progress ≡ self.old.progress }
         ensures store { watched.new.inner ≡ watched.old.inner }
+        ensures forgets { watched.new.notice ≡ None }
         ensures notes { WritesNotices (E.contents self.old.errors.now) (E.contents self.new.errors.now) }
+        ensures tells { WritesLines (AreUnheld self.old.faults watched.old.notice)
+            (both E.contents E.writes self.old.errors.now) (both E.contents E.writes self.new.errors.now) }
         ensures same_errors { self.new.errors.ghost_name ≡ self.old.errors.ghost_name }
     {
         tell_next(

@@ -1,26 +1,46 @@
 //! Writing what happened to a store that is served.
-ghost use Rattle.std.specs.Prelude.{◌≡◌};
-ghost use Rattle.control.specs.Notices.{WritesNotices};
+ghost use Rattle.std.specs.Prelude.{◌≡◌, [], ◌∷◌, None};
+ghost use Rattle.socket.specs.Connections.{both};
+ghost use Rattle.control.specs.Noted as spec;
+ghost use Rattle.control.specs.Noted.{AreOf, AreUnheld};
+ghost use Rattle.control.specs.Notices.{IsNotice, WritesLines, WritesNotices};
 
 use crate::faults::RecentFaults;
 use crate::monitored_store::{Loan, MonitoredStore};
-use crate::notice::Notice;
+use crate::notice::Noted;
 use engine::write::write_bytes;
 use histories::Tell;
-use std::alloc::{AllocError, Global};
+use std::alloc::Global;
 use std::time::Clock;
 use world::shelves::Shelves;
 
-/// Writes a notice, if memory sufficed for it. A failed write leaves out what follows of the line.
-pub fn tell<E: Tell>(notice: Result<Notice, AllocError>, errors: &mut E)
-    ensures { WritesNotices (E.contents errors.old) (E.contents errors.new) }
+/// The line that says that memory ran out for another, or for the counts of a shelf.
+const LOST: &str = "lost: memory\n";
+
+/// Writes a notice and flushes it, or `LOST` if memory ran out for it. A failed write leaves out what follows of the
+/// line.
+pub fn tell<E: Tell>(notice: Noted, errors: &mut E)
+    ensures notes { WritesNotices (E.contents errors.old) (E.contents errors.new) }
+    // Its line is written and flushed, unless a call to write or to flush failed.
+    ensures tells { WritesLines (λ lines. lines ≡ spec.noted_line notice ∷ [])
+        (both E.contents E.writes errors.old) (both E.contents E.writes errors.new) }
 {
-    if let Ok(notice) = notice {
-        write(&notice, errors);
-    }
+    write(noted_line(&notice), errors);
 }
 
-/// Writes the notice of a store, if it has one, and the store forgets it. A fault is written once a minute at most.
+/// Writes what is noted, if something is.
+pub(crate) fn tell_if<E: Tell>(noted: Option<Noted>, errors: &mut E)
+    ensures notes { WritesNotices (E.contents errors.old) (E.contents errors.new) }
+    ensures tells { WritesLines (AreOf noted)
+        (both E.contents E.writes errors.old) (both E.contents E.writes errors.new) }
+{
+    let Some(noted) = noted else {
+        return;
+    };
+    tell(noted, errors);
+}
+
+/// Writes what a store noted, if it did, and the store forgets it. The same is written once a minute at most.
 pub(crate) fn tell_next<C: Clock, N: Loan, S: Shelves, E: Tell>(
     alloc: Global,
     clock: &C,
@@ -29,21 +49,38 @@ pub(crate) fn tell_next<C: Clock, N: Loan, S: Shelves, E: Tell>(
     errors: &mut E,
 )
     ensures same { watched.new.inner ≡ watched.old.inner }
+    ensures forgets { watched.new.notice ≡ None }
     ensures notes { WritesNotices (E.contents errors.old) (E.contents errors.new) }
+    ensures tells { WritesLines (AreUnheld faults.old watched.old.notice)
+        (both E.contents E.writes errors.old) (both E.contents E.writes errors.new) }
 {
-    let Some(notice) = watched.take() else {
+    let Some(noted) = watched.take() else {
         return;
     };
-    if notice.is_fault() && !faults.admits(alloc, clock, notice.as_str()) {
+    if !faults.admits(alloc, clock, noted_line(&noted)) {
         return;
     }
-    write(&notice, errors);
+    tell(noted, errors);
 }
 
-/// Writes a notice and flushes it. Errors are ignored.
-fn write<E: Tell>(notice: &Notice, errors: &mut E)
-    ensures { WritesNotices (E.contents errors.old) (E.contents errors.new) }
+/// Returns the line of a notice, or `LOST` if memory ran out for it.
+fn noted_line(noted: &Noted) -> &str
+    ensures value { result.now ≡ spec.noted_line noted.now }
+    ensures notice { IsNotice result.now }
 {
-    let _ = write_bytes(errors, notice.as_str().as_bytes());
+    match noted {
+        Ok(notice) => notice.as_str(),
+        Err(_) => LOST,
+    }
+}
+
+/// Writes a line and flushes it. Errors are ignored.
+fn write<E: Tell>(line: &str, errors: &mut E)
+    requires { IsNotice line.now }
+    ensures notes { WritesNotices (E.contents errors.old) (E.contents errors.new) }
+    ensures tells { WritesLines (λ lines. lines ≡ line.now ∷ [])
+        (both E.contents E.writes errors.old) (both E.contents E.writes errors.new) }
+{
+    let _ = write_bytes(errors, line.as_bytes());
     let _ = errors.settle();
 }

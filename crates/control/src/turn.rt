@@ -16,6 +16,7 @@ ghost use Rattle.socket.specs.declared.callers.Caller.{Caller};
 use crate::copies::{CatalogRefusal, Copies, CopyOrders, CopyRefusal};
 use crate::health::Metrics;
 use crate::monitored_store::{Loan, MonitoredStore};
+use crate::obeying::note_told;
 use crate::operator::Operator;
 use crate::reserve::{KeepsRoom, Room};
 use crate::serving::{Server, is_stopping};
@@ -69,25 +70,21 @@ impl<'a, 'b, 'c, N: Loan, M: Moment, S: Shelves, K: Copies<S>> CopyOrders<
     /// Makes no copy, and fails with `Busy`.
     fn copy_to(
         &mut self,
-        shelves: &mut MonitoredStore<'a, N, InsertTracker<'c, M, S>>,
-        path: &str,
+        _shelves: &mut MonitoredStore<'a, N, InsertTracker<'c, M, S>>,
+        _path: &str,
     ) -> Result<(), CopyRefusal> {
-        let told = Err(CopyRefusal::Busy);
-        shelves.note_copy(path, told);
-        told
+        Err(CopyRefusal::Busy)
     }
 
     /// Prints nothing, and fails with `Busy`.
     fn catalog_to<O: ResetDeadline>(
         &mut self,
         _alloc: Global,
-        shelves: &mut MonitoredStore<'a, N, InsertTracker<'c, M, S>>,
-        key: &str,
+        _shelves: &mut MonitoredStore<'a, N, InsertTracker<'c, M, S>>,
+        _key: &str,
         _output: &mut O,
     ) -> Result<(), CatalogRefusal> {
-        let told = Err(CatalogRefusal::Busy);
-        shelves.note_catalog(key, told);
-        told
+        Err(CatalogRefusal::Busy)
     }
 
     fn versions(
@@ -175,8 +172,8 @@ impl<
             (λ old new n. K.counted old.inner.now new.inner.now n)
             operator self.old.how_far
             (both L.waiting L.history self.old.callers.now) (both L.waiting L.history self.new.callers.now)
-            self.old.progress self.new.progress
-            watched.old.inner.now watched.new.inner.now }
+            self.old.progress self.new.progress (both E.contents E.writes self.old.errors.now)
+            (both E.contents E.writes self.new.errors.now) watched.old.inner.now watched.new.inner.now }
         ensures same { self.new.callers.ghost_name ≡ self.old.callers.ghost_name }
         ensures same_errors { self.new.errors.ghost_name ≡ self.old.errors.ghost_name }
         ensures notes { WritesNotices (E.contents self.old.errors.now) (E.contents self.new.errors.now) }
@@ -188,9 +185,9 @@ impl<
             how_far: self.how_far,
         };
         let after = operator.obeyed(self.alloc, self.clock, &tally, watched, &mut copies);
-        watched.note_told(&after.told);
+        let noted = note_told(self.alloc, after.noted, &after.told);
         self.progress.end_if(is_stopping(after.told));
-        self.tell(watched);
+        self.tell(noted);
         self.callers.end_operator(after.operator);
     }
 
@@ -210,8 +207,9 @@ impl<
             (both P.came P.reads) (both P.written P.writes) L.is_new ⟦<InsertTracker<'b, M, S> as Shelves>⟧.shown
             (λ old new making. K.made old.inner.now new.inner.now making)
             (λ old new n. K.counted old.inner.now new.inner.now n) true
-            door (both L.waiting L.history self.new.callers.now)
-            self.old.progress self.new.progress watched.old.inner.now watched.new.inner.now }
+            door (both L.waiting L.history self.new.callers.now) self.old.progress self.new.progress
+            (both E.contents E.writes self.old.errors.now) (both E.contents E.writes self.new.errors.now)
+            watched.old.inner.now watched.new.inner.now }
         ensures same { self.new.callers.ghost_name ≡ self.old.callers.ghost_name }
         ensures same_errors { self.new.errors.ghost_name ≡ self.old.errors.ghost_name }
         ensures notes { WritesNotices (E.contents self.old.errors.now) (E.contents self.new.errors.now) }
@@ -235,7 +233,8 @@ impl<
             (λ old new making. K.made old.inner.now new.inner.now making)
             (λ old new n. K.counted old.inner.now new.inner.now n) true
             (both L.waiting L.history self.old.callers.now) (both L.waiting L.history self.new.callers.now)
-            self.old.progress self.new.progress watched.old.inner.now watched.new.inner.now }
+            self.old.progress self.new.progress (both E.contents E.writes self.old.errors.now)
+            (both E.contents E.writes self.new.errors.now) watched.old.inner.now watched.new.inner.now }
         ensures same { self.new.callers.ghost_name ≡ self.old.callers.ghost_name }
         ensures same_errors { self.new.errors.ghost_name ≡ self.old.errors.ghost_name }
         ensures notes { WritesNotices (E.contents self.old.errors.now) (E.contents self.new.errors.now) }
@@ -266,7 +265,8 @@ impl<
             (λ old new making. K.made old.inner.now new.inner.now making)
             (λ old new n. K.counted old.inner.now new.inner.now n) true
             (both L.waiting L.history self.old.callers.now) (both L.waiting L.history self.new.callers.now)
-            self.old.progress self.new.progress noting.old result.now }
+            self.old.progress self.new.progress (both E.contents E.writes self.old.errors.now)
+            (both E.contents E.writes self.new.errors.now) noting.old result.now }
         ensures same { self.new.callers.ghost_name ≡ self.old.callers.ghost_name }
         ensures same_errors { self.new.errors.ghost_name ≡ self.old.errors.ghost_name }
         ensures notes { WritesNotices (E.contents self.old.errors.now) (E.contents self.new.errors.now) }
@@ -297,7 +297,8 @@ impl<
         ensures serves { Serves (both O.came O.reads) (both O.written O.writes)
             (both P.came P.reads) (both P.written P.writes) L.is_new S.shown K.made K.counted true
             (both L.waiting L.history self.old.callers.now) (both L.waiting L.history self.new.callers.now)
-            self.old.progress self.new.progress shelves.old result.shelves.now }
+            self.old.progress self.new.progress (both E.contents E.writes self.old.errors.now)
+            (both E.contents E.writes self.new.errors.now) shelves.old result.shelves.now }
         ensures newcomers { result.lost ≡ false
             → Notes (S.shown shelves.old) (S.shown result.shelves.now) news.old news.new }
         ensures same { self.new.callers.ghost_name ≡ self.old.callers.ghost_name }
@@ -341,14 +342,14 @@ impl<
         (record {
           door = both L.waiting L.history old.callers.now;
           progress = old.progress;
-          errors = E.contents old.errors.now;
+          errors = both E.contents E.writes old.errors.now;
           lent = (old.callers.ghost_name, old.errors.ghost_name);
           store = s;
         })
         (record {
           door = both L.waiting L.history new.callers.now;
           progress = new.progress;
-          errors = E.contents new.errors.now;
+          errors = both E.contents E.writes new.errors.now;
           lent = (new.callers.ghost_name, new.errors.ghost_name);
           store = t;
         }) };
@@ -443,7 +444,6 @@ impl<
         mem::swap(&mut self.traffic, &mut shelves.traffic);
         let told = copies.copy(shelves.inner, path, self);
         mem::swap(&mut self.traffic, &mut shelves.traffic);
-        shelves.note_copy(path, told);
         if let Err(why) = told {
             return Err(why);
         }
@@ -465,7 +465,6 @@ impl<
         mem::swap(&mut self.traffic, &mut shelves.traffic);
         let told = copies.catalog(alloc, shelves.inner, key, output, self);
         mem::swap(&mut self.traffic, &mut shelves.traffic);
-        shelves.note_catalog(key, told);
         told
     }
 

@@ -34,8 +34,7 @@ abbrev pub use_of : Action → Use
 use_of (action.Inventory key) = Reading
 use_of (action.Catalog key) = Reading
 use_of (action.Requires version) = Reading
-use_of action.KeyList = Reading
-use_of action.ShelfList = Reading
+use_of (action.List listing) = Reading
 use_of action.Answer = Reading
 use_of other = Writing
 

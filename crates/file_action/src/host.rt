@@ -3,8 +3,8 @@ use commands::action::Action;
 use commands::refusal::CommandRefusal;
 use histories::{Hear, Tell};
 
-/// The system, as far as an action on a file needs it. The stores of its files are `S`, and what it reaches outside of
-/// them is an `N`, such as entrances where callers come in.
+/// The system, as far as an action on a file needs it. The stores of its files are `S`, and `N` is what it reaches
+/// outside of them, such as entrances where callers come in, and files that are read.
 pub trait ActionHost<S, N> {
     ghost use Rattle.file_action.specs.OnFile.{Deeds};
 

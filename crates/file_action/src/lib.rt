@@ -20,7 +20,7 @@ use store_files::files::{StoreFiles, Use};
 
 /// Makes a store with the shelf `common` alone, and returns true. It first looks whether the file has bytes: if so, it
 /// fails with `NotEmpty` and opens nothing, and otherwise as `on_file` does. If the file can't be read, opening the
-/// store says what is wrong.
+/// store fails with the reason.
 pub fn init<S, C, N, H, F, I, W>(
     host: &mut H,
     files: &mut F,
@@ -57,8 +57,7 @@ fn use_of(action: &Action) -> Use
         Action::Inventory { .. }
         | Action::Catalog { .. }
         | Action::Requires { .. }
-        | Action::KeyList
-        | Action::ShelfList
+        | Action::List { .. }
         | Action::Answer => Use::Reading,
         _ => Use::Writing,
     }

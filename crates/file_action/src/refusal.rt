@@ -1,4 +1,4 @@
-//! Why a command is refused that makes a store in a file.
+//! Why a command that makes a store in a file is refused.
 ghost use Rattle.std.specs.Prelude.{◌≡◌};
 ghost use Rattle.file_action.specs.Refusal as spec;
 

@@ -1,7 +1,7 @@
 //! `goshelf`: a private Go module proxy with team shelves.
 //!
-//! One run of the program is the call [`command::command`] of `cli`; `main` hands it the files of stores, the servers
-//! and the entrances of the system, with which nothing was done yet, the words and the streams.
+//! One run of the program is the call [`command::command`] of `cli`; `main` hands it the files of stores, the servers,
+//! the entrances and the files to read of the system, with which nothing was done yet, the words and the streams.
 #![tactic(auto)]
 
 use cli::command::{command, words_refused};

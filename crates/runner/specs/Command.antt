@@ -1,22 +1,16 @@
 -- What running a command does.
 use Rattle.std.specs.Prelude.{ℕ, map as each, List, ◌≡◌, Bool, Option, Result}
-use Rattle.std.specs.Borrow.{Bor}
 use Rattle.store_files.specs.History.{Span, IsIdle}
 use Rattle.sqlite.specs.State.{State}
 use Rattle.histories.specs.Account.{Account}
 use Rattle.world.specs.Store.{Shown}
-use Rattle.world.specs.declared.entry.Right.{Right}
 use Rattle.commands.specs.Opening.{AnsweredFor}
 use Rattle.network.specs.History as network
 use Rattle.commands.specs.Connection.{Passed}
-use Rattle.commands.specs.Order.{CopiesTo, OrdersTo, RevokesTo, StopsTo}
-use Rattle.commands.specs.Listing.{ListsTo}
+use Rattle.commands.specs.Order.{SendsThere}
 use Rattle.commands.specs.NewKey.{OrdersNew}
-use Rattle.commands.specs.Ping.{PingsTo}
-use Rattle.commands.specs.ServedCatalog.{CatalogsTo}
 use Rattle.commands.specs.Action.{acceptance}
 use Rattle.commands.specs.declared.refusal.CommandRefusal.{CommandRefusal}
-use Rattle.orders.specs.declared.listing.Listing.{Listing}
 use Rattle.file_action.specs.OnFile.{Deeds, TellsAlone, ActsOnFile, Inits}
 use Rattle.runner.specs.Extract.{ExtractsFile}
 use Rattle.runner.specs.Migrate.{MigratesFile}
@@ -74,7 +68,7 @@ module _ {S C N : Type 0} (acts : Deeds S N) (state_of : C → State) (shown : S
   IsUnconnected = network.IsIdle connected connected_new
 
   -- What each kind of command does, to which files of stores: those of the command, the new one, and the older one; and
-  -- to which servers. The last eight open no store: they send a line to a running `serve`, or can't.
+  -- to which servers. The last two open no store: they send a line to a running `serve`, or can't.
   abbrev pub Runs : Command → Type 0
   Runs (command.Init db) = Inits acts files db.now outside outside_new came came_new written written_new result × IsOnFiles × IsUnconnected
   Runs (command.AnswerInMemory team key) =
@@ -86,20 +80,9 @@ module _ {S C N : Type 0} (acts : Deeds S N) (state_of : C → State) (shown : S
       × IsUnconnected
   Runs (command.Migrate from to) =
       Alone (MigratesFile state_of shown older targets from.now to.now) × IsIdle files × IsUnconnected
-  Runs (command.Order control command) =
-      Alone (OrdersTo all connected connected_new control.now command) × IsOnNone
+  Runs (command.Send control order) =
+      PrintsAlone outside outside_new came came_new written written_new result (SendsThere all connected connected_new control.now order)
+      × IsOnNone
   Runs (command.OrderNew control shelf right) =
       EndsPrinting outside outside_new came came_new written written_new result
       (OrdersNew all control.now connected connected_new shelf right) × IsOnNone
-  Runs (command.OrderNamed control fingerprint) =
-      Alone (RevokesTo all connected connected_new control.now fingerprint.now) × IsOnNone
-  Runs (command.Copy control to) = Alone (CopiesTo all connected connected_new control.now to.now) × IsOnNone
-  Runs (command.Ping control) =
-      PrintsAlone outside outside_new came came_new written written_new result (PingsTo all connected connected_new control.now) × IsOnNone
-  Runs (command.List control listing) =
-      PrintsAlone outside outside_new came came_new written written_new result (ListsTo all connected connected_new control.now listing)
-      × IsOnNone
-  Runs (command.Catalog control key) =
-      PrintsAlone outside outside_new came came_new written written_new result (CatalogsTo all connected connected_new control.now key.now)
-      × IsOnNone
-  Runs (command.Stop control) = Alone (StopsTo all connected connected_new control.now) × IsOnNone

@@ -1,5 +1,6 @@
 //! The names that SQLite gives the files beside a database: its journal, its log and its shared memory. A store of such
-//! a name makes the database unreadable, so none is made there.
+//! a name makes the database unreadable, so none is made there. This module looks at names, reads how a log begins, and
+//! syncs the log of a copy; it makes, changes and removes no file.
 
 use commands::files::{is_missing_or_empty, is_same_file};
 use std::fs::{self, File};
@@ -101,8 +102,9 @@ pub(crate) fn sync_log(rt: &HostRuntime, path: &str) {
     }
 }
 
-/// Returns the name of a file with no link in it. If there is no file, it has its folder's name without links, and if
-/// there is no folder, it is the name that was given. Fails only if memory runs out.
+/// Returns the name of a file with no link in it. If there is no file, or only a link that leads to none, it is the end
+/// of the name that was given, behind its folder's name without links; if there is no folder, it is the name that was
+/// given. Fails only if memory runs out.
 pub(crate) fn real_name(rt: &HostRuntime, path: &str) -> io::Result<String> {
     match fs::canonicalize(rt, path) {
         Ok(real) => Ok(String::from_str(rt.alloc(), real.as_str())?),

@@ -1,4 +1,5 @@
-//! Copies of the store of a file while it is served, catalogs of it, counts of its versions, and its size.
+//! Copies of the store of a file while it is served, catalogs of it, counts of its versions, its size and its reserve.
+//! That a copy opens no other file than by `StoreFiles`, the sizes and the reserve are read and tested, and not proved.
 
 ghost use Rattle.std.specs.Prelude.{◌≡◌, ◌≢◌, [], Err, IfErr, IfOk, IsErrOf};
 ghost use Rattle.control.specs.Copying.{IsOnlyRead};
@@ -50,7 +51,7 @@ pub(crate) struct FileCopies<'a, G> {
 }
 
 impl<'a, G> FileCopies<'a, G> {
-    /// Returns how many bytes the log of the served store has, as the system tells it. None if it tells nothing or
+    /// Returns how many bytes the log of the served store has, as the system reports it. None if it reports nothing, or
     /// memory runs out for the name.
     fn log_size(&self) -> Option<u64> {
         let rt = self.host.rt;
@@ -81,8 +82,8 @@ impl<'a, S: Alter, G: CopyTargets> Copies<SqlShelves<S>> for FileCopies<'a, G> {
 
     ghost counted = { CountsIn ⟦<SqlShelves<S> as Shelves>⟧.shown };
 
-    /// It keeps no time of a copy, does not know of one that is being made, and counts no shelf. What the system tells
-    /// of the sizes is not known.
+    /// It keeps no time of a copy, does not know of one that is being made, and counts no shelf. Nothing is known of
+    /// the sizes that the system reports.
     ghost figured = { λ _ f. (f.copied ≡ None) × (f.copying ≡ None) × (f.traffic ≡ None) };
 
     fn served(&self) -> &str {
@@ -246,7 +247,7 @@ fn count_in<S: Alter>(served: &mut SqlShelves<S>) -> Result<u64, StoreFault>
     served.versions_kept()
 }
 
-/// Returns what came of a catalog, by how its printing ended.
+/// Returns the result of a catalog, by how its printing ended.
 fn catalogued(end: Result<bool, CatalogEnd>) -> Result<(), CatalogRefusal>
     ensures value { result ≡ spec.catalogued end }
     ensures begun { IfErr result (λ why. why ≢ catalog.Busy) }

@@ -1,4 +1,4 @@
-//! How far a copy of rows, or of files, is, shown on a terminal.
+//! Showing on a terminal how far a copy of rows or of files is.
 
 use commands::progress::{Progress, StderrLine};
 use statements::meter::Meter;
@@ -12,7 +12,7 @@ use std::rt::HostRuntime;
 pub(crate) struct CopyLine<'a> {
     /// None if no line is shown.
     line: Option<StderrLine<'a>>,
-    /// How many versions were copied, whose zips come behind all of them.
+    /// How many versions were copied. Their zips follow after all versions.
     versions: Cell<u64>,
     /// How many of their zips were begun.
     zips: Cell<u64>,

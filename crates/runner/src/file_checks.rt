@@ -24,7 +24,7 @@ pub trait FileChecks {
     fn has_lone_log(&self, name: &str) -> bool;
 
     /// Has the system write to the disk what it has of the log of the store at `path`, which stays as it is. If that
-    /// fails, the commit meets it too, and tells.
+    /// fails, so does the commit, which reports it.
     fn sync_log(&self, path: &str);
 
     /// Returns a line on a terminal for a command that begins now, or None if there is no terminal.

@@ -33,7 +33,7 @@ pub struct OpenedStore {
     pub shelves: Found,
 }
 
-/// What is left of a store that is closed; and an older store that is open.
+/// What remains of a closed store; also an open older store.
 #[derive(Drop)]
 pub struct ClosedFile {
     pub connection: Connection<FoundTables>,

@@ -1,5 +1,5 @@
 //! What a command asks of the system, beside opening and closing the stores of files.
-ghost use Rattle.commands.specs.Action.{Acts};
+ghost use Rattle.commands.specs.Action.{Acts, of_entrances, of_files};
 ghost use Rattle.runner.specs.Copies.{CountsIn, Makes};
 ghost use Rattle.socket.specs.Connections.{both};
 
@@ -11,14 +11,18 @@ use crate::found::{ClosedFile, Found, FoundTables, OpenedStore};
 use crate::migrate::migrate_file;
 use crate::older_files::OlderFiles;
 use crate::system::SystemStoreFiles;
-use commands::action::{Action, act_on};
+use commands::action::{Action, Outside, act_on};
 use commands::files::{is_empty_file, is_missing_or_empty, is_same_file};
+use commands::import_progress::ImportProgress;
+use commands::moment::SystemWallClock;
 use commands::new_key::order_new_at;
 use commands::progress::StderrLine;
+use commands::random_bytes::SystemRandomBytes;
 use commands::refusal::CommandRefusal;
+use commands::sources::{Sources, SystemFiles};
 use control::Operator;
 use file_action::host::ActionHost;
-use histories::{Hear, Tell};
+use histories::{Hear, Tell, Telling};
 use network::servers::Servers;
 use socket::{Callers, Entrances, Peer, SystemEntrances, SystemOperator, SystemPeer};
 use sqlite::Alter;
@@ -91,10 +95,14 @@ pub trait Host<S, C>: FileChecks {
         output: &mut O,
     ) -> Result<(), CommandRefusal>
         ensures { OrdersNew
-            (λ link passed. IsAll (R.account link.reader) (U.contents link.writer) (U.writes link.writer).failed passed)
+            (λ link passed. IsAll (R.account link.reader) (R.reads link.reader)
+            (U.contents link.writer) (U.writes link.writer).failed passed)
             control.now (V.history servers.old) (V.history servers.new) shelf.entry right
             (O.contents output.old) (O.contents output.new) result };
 }
+
+/// What an action reaches of the system outside of its store and its streams.
+pub type SystemOutside<'a> = Outside<SystemEntrances<'a>, SystemFiles<'a>>;
 
 /// The system.
 #[derive(Drop)]
@@ -133,9 +141,9 @@ impl<'a> FileChecks for SystemHost<'a> {
     }
 }
 
-/// What it reaches outside is where callers come in.
-impl<'a> ActionHost<OpenedStore, SystemEntrances<'a>> for SystemHost<'a> {
-    ghost use Rattle.commands.specs.Action.{Acts};
+/// What it reaches outside is where callers come in, and the files that a publish and an import read.
+impl<'a> ActionHost<OpenedStore, SystemOutside<'a>> for SystemHost<'a> {
+    ghost use Rattle.commands.specs.Action.{Acts, of_entrances, of_files};
     ghost use Rattle.file_action.specs.OnFile.{within};
     ghost use Rattle.runner.specs.Copies.{CountsIn, Makes};
     ghost use Rattle.runner.specs.declared.found.OpenedStore.{OpenedStore};
@@ -148,8 +156,9 @@ impl<'a> ActionHost<OpenedStore, SystemEntrances<'a>> for SystemHost<'a> {
           heard = both ⟦<SystemPeer as Peer>⟧.came ⟦<SystemPeer as Peer>⟧.reads;
           written = both ⟦<SystemPeer as Peer>⟧.written ⟦<SystemPeer as Peer>⟧.writes;
           is_new = ⟦<SystemEntrances<'a> as Callers<SystemPeer, SystemOperator>>⟧.is_new;
-          door = both ⟦<SystemEntrances<'a> as Callers<SystemPeer, SystemOperator>>⟧.waiting
-              ⟦<SystemEntrances<'a> as Callers<SystemPeer, SystemOperator>>⟧.history;
+          door = of_entrances (both ⟦<SystemEntrances<'a> as Callers<SystemPeer, SystemOperator>>⟧.waiting
+              ⟦<SystemEntrances<'a> as Callers<SystemPeer, SystemOperator>>⟧.history);
+          read = of_files ⟦<SystemFiles<'a> as Sources>⟧.history;
         })
         ⟦<Found as Shelves>⟧.shown
         (Makes ⟦<Found as Shelves>⟧.shown (λ (s : OpenedStore). ⟦<Found as Shelves>⟧.shown s.shelves)
@@ -162,7 +171,7 @@ impl<'a> ActionHost<OpenedStore, SystemEntrances<'a>> for SystemHost<'a> {
         &mut self,
         name: &str,
         store: &mut OpenedStore,
-        outside: &mut SystemEntrances<'a>,
+        outside: &mut SystemOutside<'a>,
         action: &Action,
         input: &mut I,
         output: &mut O,
@@ -231,13 +240,22 @@ impl<'a> Host<OpenedStore, ClosedFile> for SystemHost<'a> {
     }
 }
 
-/// Does an action on the open store of the file of this name, and returns whether it was accepted. Fails as [`act_on`]
-/// does.
-fn act_in<'a, S: Alter, P: Peer + Drop, Q: Operator + Drop, N: Entrances<P, Q>, I: Hear, O: Tell>(
+/// Does an action on the open store of the file of this name, with the clocks, the randomness and the standard error of
+/// the system, and returns whether it was accepted. Fails as [`act_on`] does.
+fn act_in<
+    'a,
+    S: Alter,
+    P: Peer + Drop,
+    Q: Operator + Drop,
+    N: Entrances<P, Q>,
+    F: Sources,
+    I: Hear,
+    O: Tell,
+>(
     rt: &'a HostRuntime,
     name: &str,
     shelves: &mut SqlShelves<S>,
-    entrances: &mut N,
+    outside: &mut Outside<N, F>,
     action: &Action,
     input: &mut I,
     output: &mut O,
@@ -249,7 +267,8 @@ fn act_in<'a, S: Alter, P: Peer + Drop, Q: Operator + Drop, N: Entrances<P, Q>, 
           heard = both P.came P.reads;
           written = both P.written P.writes;
           is_new = N.is_new;
-          door = both N.waiting N.history;
+          door = of_entrances (both N.waiting N.history);
+          read = of_files F.history;
         })
         ⟦<SqlShelves<S> as Shelves>⟧.shown
         (Makes ⟦<SqlShelves<S> as Shelves>⟧.shown (λ (s : OpenedStore). ⟦<Found as Shelves>⟧.shown s.shelves)
@@ -259,13 +278,13 @@ fn act_in<'a, S: Alter, P: Peer + Drop, Q: Operator + Drop, N: Entrances<P, Q>, 
         (CountsIn ⟦<SqlShelves<S> as Shelves>⟧.shown)
         (record {
           store = shelves.old;
-          outside = entrances.old;
+          outside = outside.old;
           came = I.account input.old;
           written = O.contents output.old;
         })
         (record {
           store = shelves.new;
-          outside = entrances.new;
+          outside = outside.new;
           came = I.account input.new;
           written = O.contents output.new;
         })
@@ -276,5 +295,19 @@ fn act_in<'a, S: Alter, P: Peer + Drop, Q: Operator + Drop, N: Entrances<P, Q>, 
         db: name,
         targets: SystemStoreFiles::new(rt, PageRoom::Slice),
     };
-    act_on(rt, shelves, &copies, entrances, action, input, output)
+    act_on(
+        rt.alloc(),
+        rt,
+        &mut SystemWallClock::new(rt),
+        SystemWallClock::new(rt),
+        &mut SystemRandomBytes::new(rt),
+        &ImportProgress::on_stderr(rt),
+        shelves,
+        &copies,
+        outside,
+        action,
+        input,
+        output,
+        &mut Telling::new(rt.stderr()),
+    )
 }

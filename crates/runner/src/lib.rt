@@ -7,14 +7,8 @@
 //! | [`Command::OnStore`] | opens the store of a file and does an action of `commands` on it |
 //! | [`Command::Extract`] | opens the stores of two files and puts some teams' part of the first into the second |
 //! | [`Command::Migrate`] | opens the store of a file and puts what a file of an older schema has into it |
-//! | [`Command::Order`] | opens no store, and sends an order to the `serve` that has one open |
-//! | [`Command::OrderNew`] | opens no store, makes a key, prints it, and sends an order to add it |
-//! | [`Command::OrderNamed`] | opens no store, and sends the order to revoke the key with a fingerprint or SHA-256 |
-//! | [`Command::Copy`] | opens no store, and has the `serve` that has one open copy it into another file |
-//! | [`Command::Ping`] | opens no store, asks the `serve` that has one open for its health, and prints it |
-//! | [`Command::List`] | opens no store, asks the `serve` that has one open for a list, and prints it |
-//! | [`Command::Catalog`] | opens no store, asks the `serve` that has one open for a catalog, and prints it |
-//! | [`Command::Stop`] | opens no store, and has the `serve` end that has one open |
+//! | [`Command::Send`] | opens no store, sends an order to the `serve` that has one open, and prints what it asks for |
+//! | [`Command::OrderNew`] | opens no store, makes a key, sends an order to add it, and prints it |
 //!
 //! One function opens each store and closes it before it returns: `on_file` for an action, `extract_file` for the store
 //! that is extracted from, `migrate_copy` for the copy of an older file, and `extract_to`, `migrate_to` and `copy_to`
@@ -44,21 +38,19 @@ mod slice_pace;
 pub mod system;
 pub mod temporary_files;
 
+use crate::file_checks::FileChecks;
 use crate::host::Host;
 use crate::older_files::OlderFiles;
 use commands::action::{Action, acceptance};
-use commands::copy::copy_at;
-use commands::listing::list_at;
 use commands::memory::answer_in_memory;
-use commands::order::{order_at, revoke_at, stop_at};
-use commands::ping::ping_at;
+use commands::progress::StderrLine;
 use commands::refusal::CommandRefusal;
-use commands::served_catalog::catalog_at;
+use commands::remote::send_at;
 use file_action::host::ActionHost;
 use file_action::{init, on_file};
 use histories::{Hear, Tell};
 use network::servers::Servers;
-use orders::{Listing, RegistryCommand};
+use orders::Order;
 use store_files::files::StoreFiles;
 use world::entry::Right;
 
@@ -90,49 +82,18 @@ pub enum Command<'a> {
         from: &'a str,
         to: &'a str,
     },
-    /// A registry command with `--control S`: orders the `serve` that listens at the socket S to carry it out.
-    Order {
+    /// A command with `--control S`, or `copy`, `ping` or `stop`, which have no other form: sends an order to the
+    /// `serve` that listens at the socket S, and ends as the reply says. The path of a copy is as that server sees it.
+    Send {
         control: &'a str,
-        command: RegistryCommand<'a>,
+        order: Order<'a>,
     },
-    /// `key-add --control S --new`: makes a key, prints it, and orders the `serve` that listens at the socket S to add
+    /// `key-add --control S --new`: makes a key, orders the `serve` that listens at the socket S to add it, and prints
     /// it.
     OrderNew {
         control: &'a str,
         shelf: &'a str,
         right: Right,
-    },
-    /// `key-revoke --control S --fingerprint X`: orders the `serve` that listens at the socket S to revoke the key with
-    /// a fingerprint or a SHA-256.
-    OrderNamed {
-        control: &'a str,
-        fingerprint: &'a str,
-    },
-    /// `copy --control S --to G`: orders the `serve` that listens at the socket S to make the store of G, as that
-    /// server sees the file, a copy of its own.
-    Copy {
-        control: &'a str,
-        to: &'a str,
-    },
-    /// `ping --control S`: asks the `serve` that listens at the socket S for its health, and prints the line.
-    Ping {
-        control: &'a str,
-    },
-    /// `key-list --control S` or `shelf-list --control S`: asks the `serve` that listens at the socket S for the list,
-    /// and prints it.
-    List {
-        control: &'a str,
-        listing: Listing,
-    },
-    /// `catalog --control S --key K`: asks the `serve` that listens at the socket S for the catalog of a key, and
-    /// prints it.
-    Catalog {
-        control: &'a str,
-        key: &'a str,
-    },
-    /// `stop --control S`: has the `serve` that listens at the socket S end.
-    Stop {
-        control: &'a str,
     },
 }
 
@@ -143,10 +104,11 @@ pub enum Command<'a> {
 /// opens the new store of an `extract` or a `migrate`, and by `older` a copy of an older store: each file of the
 /// command once, and it closes a store in the state that the command left it in. Neither this function nor `host` does
 /// anything else by them. By `servers` it connects to the `serve` of a command with `--control`: once, to the socket of
-/// the command, and nothing passes over that connection but the line of the order and what comes of it, which decides
-/// what is printed and how the command ends. `key-add --new` sends a second order if it can't print the key, and a
-/// `copy` asks how far it is, over connections of their own. An action is done by `host`, and so are checks. Only an
-/// action on the store of a file does anything `outside`, which is where `serve` lets callers in.
+/// the command, and nothing passes over that connection but the line of the order and its reply, which decides what is
+/// printed and how the command ends. `key-add --new` sends a second order if it can't print the key, and a `copy` asks
+/// how far it is, over connections of their own. An action is done by `host`, and so are checks. Only an action on the
+/// store of a file does anything `outside`, which is where `serve` lets callers in, and a publish and an import read
+/// files.
 pub fn run<S, C, N, H, F, G, Q, R, U, V, I, W>(
     host: &mut H,
     files: &mut F,
@@ -172,7 +134,8 @@ where
         (record { begins = F.begins; left = F.left; before = F.history files.old; after = F.history files.new })
         (record { begins = G.begins; left = G.left; before = G.history targets.old; after = G.history targets.new })
         (record { begins = Q.begins; left = Q.left; before = Q.history older.old; after = Q.history older.new })
-        (λ link passed. IsAll (R.account link.reader) (U.contents link.writer) (U.writes link.writer).failed passed)
+        (λ link passed. IsAll (R.account link.reader) (R.reads link.reader)
+        (U.contents link.writer) (U.writes link.writer).failed passed)
         (V.history servers.old) (V.history servers.new) outside.old outside.new
         (I.account input.old) (I.account input.new) (W.contents output.old) (W.contents output.new)
         result command.now }
@@ -190,29 +153,22 @@ where
             acceptance(host.extract(files, targets, db, teams, to))
         }
         Command::Migrate { from, to } => acceptance(host.migrate(older, targets, from, to)),
-        Command::Order { control, command } => {
-            acceptance(order_at(host.alloc(), servers, control, command))
-        },
+        Command::Send { control, order } => {
+            let line = line_of(host, order);
+            send_at(host.alloc(), servers, control, order, line, output)
+        }
         Command::OrderNew {
             control,
             shelf,
             right,
         } => acceptance(host.order_new(servers, control, shelf, *right, output)),
-        Command::OrderNamed {
-            control,
-            fingerprint,
-        } => acceptance(revoke_at(host.alloc(), servers, control, fingerprint)),
-        Command::Copy { control, to } => {
-            let line = host.line("copy");
-            acceptance(copy_at(host.alloc(), servers, control, to, line))
-        }
-        Command::Ping { control } => ping_at(host.alloc(), servers, control, output),
-        Command::List { control, listing } => {
-            list_at(host.alloc(), servers, control, *listing, output)
-        }
-        Command::Catalog { control, key } => {
-            catalog_at(host.alloc(), servers, control, key, output)
-        }
-        Command::Stop { control } => acceptance(stop_at(host.alloc(), servers, control)),
+    }
+}
+
+/// Returns the line that shows how far an order is: that of a copy, if somebody may see it.
+fn line_of<'h, H: FileChecks>(host: &'h H, order: &Order) -> Option<StderrLine<'h>> {
+    match order {
+        Order::Copy(_) => host.line("copy"),
+        _ => None,
     }
 }

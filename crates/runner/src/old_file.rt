@@ -31,8 +31,8 @@ struct LockedFile {
 ///
 /// It locks both files before it reads their first byte and until it has read their last, so no other program writes
 /// meanwhile. Fails with `Device` if another program has one of them open, if one can't be read or has a second name,
-/// if SQLite left a journal, or if the copy can't be written; if there is no room for a copy of a file that is no
-/// database, with `BadSchema`; and with `Memory` if memory runs out. Then it leaves no copy.
+/// if SQLite left a journal, or if the copy can't be made; with `BadSchema` if the copy can't be made of a file that is
+/// no database, whatever the cause; and otherwise with `Memory` if memory runs out. Then it leaves no copy.
 pub(crate) fn copy_of(
     rt: &HostRuntime,
     path: &str,

@@ -1,10 +1,10 @@
-//! The opening of a large store, said on a terminal.
+//! Showing on a terminal that a large store is opened.
 
 use commands::files::size_of_file;
 use commands::progress::StderrLine;
 use std::rt::HostRuntime;
 
-/// The least bytes of a file whose opening is said. An opening reads the whole file, which takes a second or more for
+/// The least bytes of a file whose opening is shown. An opening reads the whole file, which takes a second or more for
 /// one of some hundred MiB.
 const LARGE: u64 = 128 << 20;
 

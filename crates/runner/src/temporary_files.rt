@@ -1,5 +1,5 @@
 //! Files of a store that this run makes for itself. They lose their names as soon as they are open, so the system frees
-//! them when the run ends, however it ends.
+//! them when the run ends, however it ends after that. A run that is killed before leaves them.
 
 use std::hash::{BuildHasher, RandomState};
 use std::rt::HostRuntime;

@@ -67,7 +67,8 @@ pub(crate) const SHORTEST_LOG: usize = 32 + 24;
 /// random.
 ///
 /// Fails with `Memory` if memory ran out, and with `Device` if the files cannot be opened (see
-/// [`StoreRefusal::Device`]). If the database file is missing and its log is not, it creates nothing.
+/// [`StoreRefusal::Device`]) or the system has no random number. If the database file is missing and something other
+/// than an empty file has the name of its log, it creates nothing.
 ///
 /// It opens both files itself, because the kit's call for a path takes no number of pages.
 pub(crate) fn open_pair<T: Start>(
@@ -106,7 +107,8 @@ pub fn names_no_file(path: &str) -> bool
 }
 
 /// Reports whether there is no file of this name, but something other than an empty file at the name of its log: what
-/// is left of a store whose database file was removed. Fails if the system does not say.
+/// is left of a store whose database file was removed. False if the system does not say whether there is a file; fails
+/// if it does not say that of the log, or if memory runs out.
 fn is_log_alone(rt: &HostRuntime, path: &str) -> io::Result<bool> {
     match fs::symlink_metadata(rt, path) {
         Err(error) if error.kind() == ErrorKind::NotFound => {}

@@ -1,9 +1,11 @@
 //! Imports that break off: the list cannot be read on, or a line cannot be printed.
 use crate::in_memory::put;
 use commands::import::{Ending, import};
+use commands::import_progress::ImportProgress;
 use commands::inventory::inventory;
 use commands::memory::shelves_with;
-use commands::sources::{FilesInMemory, Sources};
+use commands::memory_files::FilesInMemory;
+use commands::sources::Sources;
 use engine::Io;
 use histories::Telling;
 use outline::outlines::Outlines;
@@ -59,7 +61,7 @@ example.com/i,v1.2.0,alpha,release,,21,0
 fn imported<S: Shelves, F: Sources, L: Read + Drop>(
     alloc: Global,
     shelves: &mut S,
-    files: &F,
+    files: &mut F,
     key: &str,
     list: L,
     mut output: Sink,
@@ -70,6 +72,7 @@ fn imported<S: Shelves, F: Sources, L: Read + Drop>(
         key,
         list,
         files,
+        &ImportProgress::new(None),
         &mut Telling::new(&mut output),
     ));
     Ok(format!(in alloc; "{}{ending}", from_utf8(output.taken.as_slice())?)?)
@@ -98,7 +101,7 @@ fn left_by<S: Outlines + Drop, L: Read + Drop, F: Sources>(
     alloc: Global,
     mut shelves: S,
     list: L,
-    files: &F,
+    files: &mut F,
     output: Sink,
 ) -> Result<String, Fail> {
     let ended = imported(alloc, &mut shelves, files, KEY, list, output)?;
@@ -111,7 +114,7 @@ fn left_by<S: Outlines + Drop, L: Read + Drop, F: Sources>(
 fn left<L: Read + Drop, F: Sources>(
     alloc: Global,
     list: L,
-    files: &F,
+    files: &mut F,
     output: Sink,
 ) -> Result<String, Fail> {
     let shelves = shelves_with(alloc, "alpha", KEY)?;
@@ -138,7 +141,7 @@ fn left_unread(alloc: Global, lines: usize) -> Result<String, AllocError> {
 }
 
 /// Reports whether that is left if the list cannot be read on after this many reads.
-fn stays<F: Sources>(alloc: Global, files: &F, reads: usize) -> Result<bool, Fail> {
+fn stays<F: Sources>(alloc: Global, files: &mut F, reads: usize) -> Result<bool, Fail> {
     let mut list = Source::new(LIST, 1);
     list.reads = reads;
     let left = left(alloc, list, files, Sink::new(alloc, usize::MAX))?;
@@ -148,9 +151,9 @@ fn stays<F: Sources>(alloc: Global, files: &F, reads: usize) -> Result<bool, Fai
 
 #[test]
 fn rows_before_a_failed_read_stay(rt: HostRuntime) -> Result<(), Fail> {
-    let files = files(rt.alloc())?;
+    let mut files = files(rt.alloc())?;
     for reads in 0..LIST.len() + 1 {
-        assert!(rt; stays(rt.alloc(), &files, reads)?, "at {reads}");
+        assert!(rt; stays(rt.alloc(), &mut files, reads)?, "at {reads}");
     }
     Ok(())
 }
@@ -164,7 +167,7 @@ const BAD_LINES: &str = "1 201 published\n2 201 published\n3 bad row\n";
 
 /// Reports whether, with room for this much only, the beginning of the lines is printed, and the row is done whose line
 /// breaks off.
-fn breaks_off<F: Sources>(alloc: Global, files: &F, room: usize) -> Result<bool, Fail> {
+fn breaks_off<F: Sources>(alloc: Global, files: &mut F, room: usize) -> Result<bool, Fail> {
     let left = left(alloc, BAD, files, Sink::new(alloc, room))?;
     let printed = BAD_LINES.get(..room).ok_or("no such place")?;
     let rows = newlines(BAD_LINES.as_bytes(), room)
@@ -176,15 +179,15 @@ fn breaks_off<F: Sources>(alloc: Global, files: &F, room: usize) -> Result<bool,
 
 #[test]
 fn a_row_whose_line_breaks_off_is_done(rt: HostRuntime) -> Result<(), Fail> {
-    let files = files(rt.alloc())?;
+    let mut files = files(rt.alloc())?;
     for room in 0..BAD_LINES.len() {
-        assert!(rt; breaks_off(rt.alloc(), &files, room)?, "at {room}");
+        assert!(rt; breaks_off(rt.alloc(), &mut files, room)?, "at {room}");
     }
     Ok(())
 }
 
 /// Reports whether the first row is the last that is done if its line is not flushed.
-fn stops_unflushed<F: Sources>(alloc: Global, files: &F) -> Result<bool, Fail> {
+fn stops_unflushed<F: Sources>(alloc: Global, files: &mut F) -> Result<bool, Fail> {
     let mut output = Sink::new(alloc, usize::MAX);
     output.flushes = false;
     let left = left(alloc, BAD, files, output)?;
@@ -194,7 +197,7 @@ fn stops_unflushed<F: Sources>(alloc: Global, files: &F) -> Result<bool, Fail> {
 
 #[test]
 fn a_row_whose_line_is_not_flushed_is_the_last(rt: HostRuntime) -> Result<(), Fail> {
-    let files = files(rt.alloc())?;
-    assert!(rt; stops_unflushed(rt.alloc(), &files)?);
+    let mut files = files(rt.alloc())?;
+    assert!(rt; stops_unflushed(rt.alloc(), &mut files)?);
     Ok(())
 }

@@ -1,5 +1,6 @@
 //! Files in memory.
-use commands::sources::{FilesInMemory, Sources};
+use commands::memory_files::FilesInMemory;
+use commands::sources::{Sources, read_file};
 use std::alloc::{AllocError, Global};
 use std::str::from_utf8;
 use std::test::Fail;
@@ -24,15 +25,15 @@ fn put_file(
 }
 
 /// Returns the bytes under a name, at most one more than `most`, or why there are none.
-fn read<F: Sources>(alloc: Global, files: &F, name: &str, most: u32) -> Result<String, Fail> {
-    match files.bytes(name, u64::from(most)) {
+fn read<F: Sources>(alloc: Global, files: &mut F, name: &str, most: u32) -> Result<String, Fail> {
+    match read_file(files, name, u64::from(most)) {
         Ok(bytes) => Ok(String::from_str(alloc, from_utf8(bytes.as_slice())?)?),
         Err(fault) => Ok(format!(in alloc; "{fault:?}")?),
     }
 }
 
 /// Reports whether a row's name has the bytes, or the fault, that the row says.
-fn is_read<F: Sources>(alloc: Global, files: &F, row: &str) -> Result<bool, Fail> {
+fn is_read<F: Sources>(alloc: Global, files: &mut F, row: &str) -> Result<bool, Fail> {
     let most = cell(row, 1).parse::<u32>()?;
     let wanted = with_lines(alloc, cell(row, 2))?;
     Ok(read(alloc, files, cell(row, 0), most)?.as_str() == wanted.as_str())

@@ -1,6 +1,7 @@
 //! Imports a list.
 use commands::import::import;
-use commands::sources::FilesInMemory;
+use commands::import_progress::ImportProgress;
+use commands::memory_files::FilesInMemory;
 use histories::Telling;
 use std::alloc::Global;
 use std::str::from_utf8;
@@ -51,14 +52,15 @@ fn named_files(alloc: Global) -> Result<FilesInMemory, Fail> {
 /// Imports the rows whose bits are chosen, and returns the bits of the lines that say that a row is published.
 pub fn imported<S: Shelves>(alloc: Global, shelves: &mut S, chosen: u8) -> Result<u8, Fail> {
     let list = list_of(alloc, chosen)?;
-    let files = named_files(alloc)?;
+    let mut files = named_files(alloc)?;
     let mut output = Vec::new(alloc);
     import(
         alloc,
         shelves,
         "alphakey00000001",
         list.as_bytes(),
-        &files,
+        &mut files,
+        &ImportProgress::new(None),
         &mut Telling::new(&mut output),
     )?;
     Ok(published(from_utf8(output.as_slice())?))

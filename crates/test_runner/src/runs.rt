@@ -8,7 +8,7 @@ use histories::{Hear, Hearing, Tell, Telling};
 use memory_store::map_shelves::MapShelves;
 use network::memory::MemoryServers;
 use network::servers::Servers;
-use orders::{Listing, RegistryCommand};
+use orders::{Listing, Order, RegistryCommand};
 use runner::host::Host;
 use runner::older_files::OlderFiles;
 use runner::{Command, run};
@@ -69,21 +69,12 @@ fn command_of<'a>(row: &'a str, teams: &'a [&'a str]) -> Command<'a> {
             from: db,
             to: "new.db",
         },
-        "order" => return Command::Order {
-            control: db,
-            command,
-        },
-        "copy" => return Command::Copy {
-            control: db,
-            to: "new.db",
-        },
-        "ping" => return Command::Ping { control: db },
-        "list" => return Command::List {
-            control: db,
-            listing: Listing::Keys,
-        },
-        "catalog" => return Command::Catalog { control: db, key },
-        "stop" => return Command::Stop { control: db },
+        "order" => return sending(db, Order::Registry(command)),
+        "copy" => return sending(db, Order::Copy("new.db")),
+        "ping" => return sending(db, Order::Ping),
+        "list" => return sending(db, Order::List(Listing::Keys)),
+        "catalog" => return sending(db, Order::Catalog(key)),
+        "stop" => return sending(db, Order::Stop),
         "team-add" => Action::Register { command },
         "key-add" => Action::Register {
             command: RegistryCommand::KeyAdd {
@@ -95,6 +86,11 @@ fn command_of<'a>(row: &'a str, teams: &'a [&'a str]) -> Command<'a> {
         _ => Action::Inventory { key },
     };
     Command::OnStore { db, action }
+}
+
+/// Returns the command that sends an order.
+fn sending<'a>(control: &'a str, order: Order<'a>) -> Command<'a> {
+    Command::Send { control, order }
 }
 
 /// Returns the word that a command ended by.

@@ -15,25 +15,9 @@ returns-in-Migrate g c =
     ran _ _ _ _ _ _ _ _ _ _ _ _ _ _ _ _ _ _ c.in-Migrate.is
     (alone _ _ _ _ _ c.migrate.result c.migrate.ensures c.acceptance-in-Migrate.ensures, refl, refl)
 
-pub returns-in-Order : goal.returns-in-Order
-returns-in-Order g c = ran _ _ _ _ _ _ _ _ _ _ _ _ _ _ _ _ _ _ c.in-Order.is
-    (alone _ _ _ _ _ c.order_at.result c.order_at.ensures c.acceptance-in-Order.ensures, (refl, refl, refl))
-
-pub returns-in-OrderNamed : goal.returns-in-OrderNamed
-returns-in-OrderNamed g c = ran _ _ _ _ _ _ _ _ _ _ _ _ _ _ _ _ _ _ c.in-OrderNamed.is
-    (alone _ _ _ _ _ c.revoke_at.result c.revoke_at.ensures c.acceptance-in-OrderNamed.ensures, (refl, refl, refl))
-
-pub returns-in-Copy : goal.returns-in-Copy
-returns-in-Copy g c = ran _ _ _ _ _ _ _ _ _ _ _ _ _ _ _ _ _ _ c.in-Copy.is
-    (alone _ _ _ _ _ c.copy_at.result c.copy_at.ensures c.acceptance-in-Copy.ensures, (refl, refl, refl))
-
-pub returns-in-Stop : goal.returns-in-Stop
-returns-in-Stop g c = ran _ _ _ _ _ _ _ _ _ _ _ _ _ _ _ _ _ _ c.in-Stop.is
-    (alone _ _ _ _ _ c.stop_at.result c.stop_at.ensures c.acceptance-in-Stop.ensures, (refl, refl, refl))
-
-pub returns-in-Ping : goal.returns-in-Ping
-returns-in-Ping g c = ran _ _ _ _ _ _ _ _ _ _ _ _ _ _ _ _ _ _ c.in-Ping.is
-    (record { does = c.ping_at.ensures; input = refl; idle = refl }, (refl, refl, refl))
+pub returns-in-Send : goal.returns-in-Send
+returns-in-Send g c = ran _ _ _ _ _ _ _ _ _ _ _ _ _ _ _ _ _ _ c.in-Send.is
+    (record { does = c.send_at.ensures.sends; input = refl; idle = refl }, (refl, refl, refl))
 
 pub returns-in-OrderNew : goal.returns-in-OrderNew
 returns-in-OrderNew g c = ran _ _ _ _ _ _ _ _ _ _ _ _ _ _ _ _ _ _ c.in-OrderNew.is (
@@ -46,14 +30,6 @@ returns-in-OrderNew g c = ran _ _ _ _ _ _ _ _ _ _ _ _ _ _ _ _ _ _ c.in-OrderNew.
   },
   (refl, refl, refl),
 )
-
-pub returns-in-List : goal.returns-in-List
-returns-in-List g c = ran _ _ _ _ _ _ _ _ _ _ _ _ _ _ _ _ _ _ c.in-List.is
-    (record { does = c.list_at.ensures; input = refl; idle = refl }, (refl, refl, refl))
-
-pub returns-in-Catalog : goal.returns-in-Catalog
-returns-in-Catalog g c = ran _ _ _ _ _ _ _ _ _ _ _ _ _ _ _ _ _ _ c.in-Catalog.is
-    (record { does = c.catalog_at.ensures; input = refl; idle = refl }, (refl, refl, refl))
 
 pub returns-in_ok-answer_in_memory-in-AnswerInMemory : goal.returns-in_ok-answer_in_memory-in-AnswerInMemory
 returns-in_ok-answer_in_memory-in-AnswerInMemory g c = ran _ _ _ _ _ _ _ _ _ _ _ _ _ _ _ _ _ _ c.in-AnswerInMemory.is (

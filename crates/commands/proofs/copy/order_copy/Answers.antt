@@ -1,14 +1,10 @@
-use Rattle.commands.proofs.Connections.{asked_known, asked_then, unasked, unasked_known}
+use Rattle.std.proofs.Common.{sym}
+use Rattle.control.proofs.ReplyLemmas.{gets}
 use Rattle.commands.proofs.copy.order_copy.Goals as goal
 
-pub returns-in-Ok-clause-asks : goal.returns-in-Ok-clause-asks
-returns-in-Ok-clause-asks g c = asked_known _ _ _ _ _ _ c.in-Ok.ensures c.hear_copied.ensures.tells
-
-pub returns-in-Ok-clause-heard : goal.returns-in-Ok-clause-heard
-returns-in-Ok-clause-heard g c = asked_then _ _ _ _ _ _ _ _ c.in-Ok.ensures c.hear_copied.ensures.heard
-
-pub returns-in-Err-clause-asks : goal.returns-in-Err-clause-asks
-returns-in-Err-clause-asks g c = unasked_known (g.R.Read.remaining c.args.reader.now) _ _ _ _ _ _ c.in-Err.ensures
-
-pub returns-in-Err-clause-heard : goal.returns-in-Err-clause-heard
-returns-in-Err-clause-heard g c = unasked _ _ _ _ _ _ _ c.in-Err.ensures
+pub returns-clause-gets : goal.returns-clause-gets
+returns-clause-gets g c is_line =
+    let room = c.in-Ok.ensures in
+    let read = c.await_line-read.ensures in
+    gets _ _ _ (g.R.Hear.reads c.args.reader.now) (g.R.Hear.reads c.await_line-read.new.reader) _ _ _ _ _ _ _ _ _ room.room
+    room.empty.1 room.sent (rw (is_line, sym room.empty.0) read.reads) read.cause (rw is_line read.memory) c.reply_to.ensures

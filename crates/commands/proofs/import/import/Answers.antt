@@ -10,13 +10,13 @@ use Rattle.commands.proofs.import.import.Goals as goal
 
 pub returns-in-Some-clause-imports : goal.returns-in-Some-clause-imports
 returns-in-Some-clause-imports g c =
-    let files = g.F.Sources.known c.args.sources.now in
+    let read = g.F.Sources.history c.args.sources.now in
     let key = c.args.key.now in
     let here = g.S.Shelves.shown c.args.shelves.now in
     let written = g.O.Write.contents c.args.output.now in
     let list = g.L.Read.remaining c.args.list in
-    closed files key here here list written written _ [] 0 c.in-Some.closing _ c.close.result tt
-    (nothing_done files key here)
+    closed key here here read read list written written _ [] 0 c.in-Some.closing _ c.close.result tt
+    (nothing_done key here read)
     (inr (refl, refl, c.in-Some.ensures list c.open-reader.ensures)) refl (appends_none written) c.close.ensures.closes
 
 pub loop-number-init : goal.loop-number-init
@@ -24,7 +24,7 @@ loop-number-init g c =
     let here = g.S.Shelves.shown c.args.shelves.now in (
       [],
       record {
-        through = nothing_done (g.F.Sources.known c.args.sources.now) c.args.key.now here;
+        through = nothing_done c.args.key.now here (g.F.Sources.history c.args.sources.now);
         read = c.in_default.ensures (g.L.Read.remaining c.args.list) c.open-reader.ensures;
         printed = appends_none (g.O.Write.contents c.args.output.now);
         accepted = refl;
@@ -39,8 +39,8 @@ returns-in-Err-clause-imports g c =
     let (done_rows, so) = c.loop-number.invariant in
     let (t, takes, is, front) =
     c.in-Err.ensures.steps (g.L.Read.remaining c.args.list) (spec.rows_of done_rows) so.read in
-    broken_off (g.F.Sources.known c.args.sources.now) c.args.key.now _ _ (g.L.Read.remaining c.args.list) _ _ _
-    done_rows _ _ t _
+    broken_off c.args.key.now _ _ (g.F.Sources.history c.args.sources.now) _ (g.L.Read.remaining c.args.list) _ _ _
+    done_rows _ _ _ t _
     (are_first g.L.Read.remaining (g.L.Read.remaining c.args.list) (done_rows ++ t ∷ []) c.import_next.new.reader
     (subst (λ rows. HasRead g.L.Read.remaining (g.L.Read.remaining c.args.list) rows c.import_next.new.reader)
     (rows_more done_rows t) takes.read))
@@ -49,29 +49,27 @@ returns-in-Err-clause-imports g c =
 pub returns-in-Ok-Over-clause-imports : goal.returns-in-Ok-Over-clause-imports
 returns-in-Ok-Over-clause-imports g c =
     let (done_rows, so) = c.loop-number.invariant in
-    let files = g.F.Sources.known c.args.sources.now in
     let key = c.args.key.now in
     let list = g.L.Read.remaining c.args.list in
     let first = g.O.Write.contents c.args.output.now in
     let idle = rw c.in-Ok-Over.field-0-is at (c.in-Ok-Over.ensures.steps list (spec.rows_of done_rows) so.read) in
     let printed = subst (λ w. Appends first w (spec.lines_from 1 done_rows)) (sym idle.output) so.printed in
-    closed files key _ _ list first _ _ done_rows c.loop-number.number c.in-Ok-Over.closing c.loop-number.accepted
+    closed key _ _ _ _ list first _ _ done_rows c.loop-number.number c.in-Ok-Over.closing c.loop-number.accepted
     c.close-in-Ok-Over.result
     (are_first g.L.Read.remaining list done_rows _ so.read)
-    (through_idle files key _ _ _ done_rows so.through idle.through)
+    (through_idle key _ _ _ _ _ _ done_rows so.through idle.through)
     (inl (so.count, idle.closing)) so.accepted printed c.close-in-Ok-Over.ensures.closes
 
 pub loop-number-preserved : goal.loop-number-preserved
 loop-number-preserved g c =
     let (done_rows, so) = c.loop-number.invariant in
-    let files = g.F.Sources.known c.args.sources.now in
     let key = c.args.key.now in
     let list = g.L.Read.remaining c.args.list in
     let (t, takes, is, more) =
     rw c.in-Ok-Row.field-0-is at (c.in-Ok-Row.ensures.steps list (spec.rows_of done_rows) so.read) in (
       done_rows ++ t ∷ [],
       record {
-        through = through_more files key _ _ _ done_rows t so.through takes.through;
+        through = through_more key _ _ _ _ _ _ done_rows t so.through takes.through;
         read = subst (λ rows. HasRead g.L.Read.remaining list rows c.import_next.new.reader) (rows_more done_rows t)
             takes.read;
         printed = lines_more _ _ _ c.loop-number.number done_rows t so.count so.printed more;
@@ -87,7 +85,7 @@ pub returns-clause-imports : goal.returns-clause-imports
 returns-clause-imports g c =
     let (done_rows, so) = c.loop-number.invariant in
     let n : ℕ = 18446744073709551615 in
-    closed (g.F.Sources.known c.args.sources.now) c.args.key.now _ _ (g.L.Read.remaining c.args.list) _ _ _ done_rows n
+    closed c.args.key.now _ _ _ _ (g.L.Read.remaining c.args.list) _ _ _ done_rows n
     ReadError c.loop-number.accepted c.close-2.result
     (are_first g.L.Read.remaining (g.L.Read.remaining c.args.list) done_rows _ so.read) so.through
     (inl (omega (arith, so.count), tt)) so.accepted so.printed c.close-2.ensures.closes

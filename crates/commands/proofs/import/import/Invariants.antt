@@ -10,7 +10,8 @@ abbrev pub invariant-loop-number : goal.invariant-loop-number
 invariant-loop-number g l =
     let s = g.S.Shelves in
     (done_rows : List DoneRow) × record {
-      through : GoesThrough (s.shown l.fn.shelves) (s.shown l.shelves) (g.F.Sources.known l.sources) l.key done_rows;
+      through : GoesThrough (s.shown l.fn.shelves) (s.shown l.shelves)
+          (g.F.Sources.history l.fn.sources) (g.F.Sources.history l.sources) l.key done_rows;
       read : HasRead g.L.Read.remaining (g.L.Read.remaining l.fn.list) (rows_of done_rows) l.reader;
       printed : Appends (g.O.Write.contents l.fn.output) (g.O.Write.contents l.output) (lines_from 1 done_rows);
       accepted : l.accepted ≡ list_all is_accepted done_rows;

@@ -10,7 +10,7 @@ use Rattle.commands.proofs.import.import_next.Goals as goal
 pub returns-in-Some-clause-steps : goal.returns-in-Some-clause-steps
 returns-in-Some-clause-steps g c =
     λ list rows so. record {
-      through = nothing_done (g.F.Sources.known c.args.sources.now) c.args.key.now _;
+      through = nothing_done c.args.key.now _ _;
       closing = c.in-Some.ensures list rows so;
       output = refl;
     }
@@ -18,7 +18,7 @@ returns-in-Some-clause-steps g c =
 pub returns-in_default-row_of-clause-steps : goal.returns-in_default-row_of-clause-steps
 returns-in_default-row_of-clause-steps g c =
     λ list rows so. record {
-      through = nothing_done (g.F.Sources.known c.args.sources.now) c.args.key.now _;
+      through = nothing_done c.args.key.now _ _;
       closing = inr (
         fields_of c.read_row.new.fields,
         c.in_default-row_of.ensures,

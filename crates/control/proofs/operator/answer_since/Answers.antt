@@ -18,7 +18,7 @@ returns-in-Some-Catalog-clause-figures g c =
     let new = c.print_for-told.new.shelves in
     tells_outcome (k.figured c.args.copies.now new)
     (IsPinged c.args.tally.now (s.shown c.args.shelves.now).failures (s.shown new).failures
-    (k.counted c.args.shelves.now new)) c.print_for-told.result c.print_for-told.ensures.outcome
+    (k.counted c.args.shelves.now new)) c.print_for-told.result.told c.print_for-told.ensures.outcome
 
 pub returns-in-Some-Catalog-clause-fails : goal.returns-in-Some-Catalog-clause-fails
 returns-in-Some-Catalog-clause-fails g c =

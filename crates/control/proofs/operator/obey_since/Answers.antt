@@ -10,13 +10,16 @@ pub returns-clause-obeys : goal.returns-clause-obeys
 returns-clause-obeys g c = elim c.match-got.branch [
   | in-Ok w ↦ rw (w.writer-is, w.shelves-is, w.copies-is, c.into_inner-reader.ensures.same)
       ((rw w.deref.ensures.value at w.answer_since.ensures.obeys) _ _ (rw c.new-line.ensures at w.in-Ok.ensures.reads))
-  | in-Err-Io w ↦ rw (w.writer-is, w.shelves-is, w.copies-is) (refl, tasks_none (g.S.Shelves.shown c.args.shelves.now), refl)
+  | in-Err-Io w ↦ rw (w.writer-is, w.shelves-is, w.copies-is)
+      (refl, tasks_none (g.S.Shelves.shown c.args.shelves.now), refl, refl)
   | in-Err-Memory w ↦
       let before = Some c.args.operator.writer.noted.bytes in
-      let after = Some w.tell_since.result.0.noted.bytes in
+      let after = Some w.tell_since-writer.result.0.noted.bytes in
+      let said = w.tell_since-writer.result.1 in
       rw (w.writer-is, w.shelves-is, w.copies-is)
-      (obeys_told _ _ _ _ _ _ _ _ before before after [] (Appends-nil before) _ w.tell_since.result.1
-      (hears_no_memory _ _ _ _ _ _ _ _ refl (tasks_none _)) w.tell_since.ensures.same w.tell_since.ensures.tells)
+      (obeys_told _ _ _ _ _ _ _ _ before before after [] (Appends-nil before) _ said _
+      (hears_no_memory _ _ _ _ _ _ _ _ said refl (tasks_none _)) w.tell_since-writer.ensures.same
+      w.tell_since-writer.ensures.tells)
 ]
 
 pub returns-clause-writes_in_time : goal.returns-clause-writes_in_time
@@ -25,5 +28,5 @@ returns-clause-writes_in_time g c = elim c.match-got.branch [
       (answered_in_time _ _ _ _ _ (rw c.new-line.ensures at w.in-Ok.ensures.reads)
       (rw w.deref.ensures.value at w.answer_since.ensures.in_time))
   | in-Err-Io w ↦ rw w.writer-is (unwritten_in_time _ _ _ _ c.requires.writes)
-  | in-Err-Memory w ↦ rw w.writer-is (inl w.tell_since.ensures.in_time)
+  | in-Err-Memory w ↦ rw w.writer-is (inl w.tell_since-writer.ensures.in_time)
 ]

@@ -1,12 +1,21 @@
 use Rattle.control.proofs.ServeLemmas.{each_goes}
-use Rattle.control.proofs.ServingLemmas.{ends_each}
+use Rattle.control.proofs.ServingLemmas.{ends_each, traces_each}
 use Rattle.control.proofs.serve.serve_lent.Goals as goal
 
 pub returns-clause-ends : goal.returns-clause-ends
 returns-clause-ends g c =
     rw (c.into_inner.ensures.value, c.into_parts-callers.ensures.callers)
-    (ends_each _ _ _ _ _ _ _ _ _ _ _ _ _ _ _ _
+    (ends_each _ _ _ _ _ _ _ _ _ _ _ _ _ _ _ _ _ _
     (rw (c.new-watched.ensures.value, c.new-server.ensures.callers) at c.serve_each.ensures.serves)
+    c.new-server.ensures.tally c.new-server.ensures.left c.new-server.ensures.taken c.new-server.ensures.stops
+    c.serve_each.ensures.over)
+
+pub returns-clause-traces : goal.returns-clause-traces
+returns-clause-traces g c =
+    rw (c.into_inner.ensures.value, c.into_parts-callers.ensures.callers, c.into_parts-callers.ensures.errors)
+    (traces_each _ _ _ _ _ _ _ _ _ _ _ _ _ _ _ _ _ _
+    (rw (c.new-watched.ensures.value, c.new-server.ensures.callers, c.new-server.ensures.errors)
+    at c.serve_each.ensures.serves)
     c.new-server.ensures.tally c.new-server.ensures.left c.new-server.ensures.taken c.new-server.ensures.stops
     c.serve_each.ensures.over)
 

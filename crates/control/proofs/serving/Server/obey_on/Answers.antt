@@ -1,7 +1,7 @@
 use Rattle.std.proofs.Common.{◌≤◌, ◌≡◌, ap, arith, ◌∙◌}
 use Rattle.socket.specs.Connections.{both}
 use Rattle.control.proofs.NoticeLemmas.{notices_more, notices_none}
-use Rattle.control.proofs.ServeLemmas.{obeyed_one}
+use Rattle.control.proofs.ServeLemmas.{obeyed_one, obeyed_trace}
 use Rattle.control.proofs.OrderedLemmas.{either_way, ordered_if}
 use Rattle.control.proofs.ServingLemmas.{all_turns, obey_serves}
 use Rattle.control.proofs.serving.Server.obey_on.Goals as goal
@@ -9,13 +9,23 @@ use Rattle.control.proofs.serving.Server.obey_on.Goals as goal
 pub returns-clause-serves : goal.returns-clause-serves
 returns-clause-serves g c = λ door takes fresh.
     let o = g.O.Operator in
-    let next = obeyed_one (both o.came o.reads) (both o.written o.writes) _ _ _ _ _ _ _ _ _ _
+    let next = obeyed_one (both o.came o.reads) (both o.written o.writes) _ _ _ _ _ _ _ _ _ _ _
     c.obeyed-after.ensures.obeys c.obeyed-after.ensures.cause c.is_stopping.ensures in
-    rw (c.tell.ensures.store, c.note_told.ensures.same, c.tell.ensures.progress)
-    (obey_serves _ _ _ _ _ _ _ _ door _ _ _ _ _ _ _ _ _ _ _
-    (λ same. (ap (λ x. both g.L.Callers.waiting g.L.Callers.history x.callers.now) same, ap (λ x. x.progress) same))
+    let errors = both g.E.Write.contents g.E.Tell.writes in
+    let mid = errors c.obeyed-after.new.copies.errors.now in
+    let last = errors c.tell.new.self.errors.now in
+    let trace = obeyed_trace (both o.came o.reads) (both o.written o.writes) _ _ _ _ _ _ _ _ _ _ _ _
+    c.obeyed-after.ensures.obeys c.obeyed-after.ensures.cause c.is_stopping.ensures mid last c.note_told-noted.ensures
+    c.tell.ensures.tells in
+    rw c.tell.ensures.progress
+    (obey_serves _ _ _ _ _ _ _ _ door _ _ _ _ _ _ _ (errors c.args.self.now.errors.now) mid last _ _ _ _
+    (λ same. (
+      ap (λ x. both g.L.Callers.waiting g.L.Callers.history x.callers.now) same,
+      ap (λ x. x.progress) same,
+      ap (λ x. errors x.errors.now) same,
+    ))
     (λ making made. (made.0, (all_turns _ _ _ _ _ _ _ _ _ _ made.1).serves, made.2, made.3.begun))
-    c.args.operator _ c.is_stopping.result takes fresh c.requires.0 next
+    c.args.operator _ c.is_stopping.result takes fresh c.requires.0 next trace
     (rw c.tell.ensures.same at c.end_operator.ensures)
     c.count_operator.ensures.tally c.count_operator.ensures.left c.count_operator.ensures.taken
     c.count_operator.ensures.stops c.end_if.ensures.tally c.end_if.ensures.left c.end_if.ensures.taken
@@ -24,7 +34,7 @@ returns-clause-serves g c = λ door takes fresh.
 pub returns-clause-taken : goal.returns-clause-taken
 returns-clause-taken g c =
     let o = g.O.Operator in
-    let next = obeyed_one (both o.came o.reads) (both o.written o.writes) _ _ _ _ _ _ _ _ _ _
+    let next = obeyed_one (both o.came o.reads) (both o.written o.writes) _ _ _ _ _ _ _ _ _ _ _
     c.obeyed-after.ensures.obeys c.obeyed-after.ensures.cause c.is_stopping.ensures in
     let more : c.count_operator.new.self.taken ≤ c.obeyed-after.new.copies.progress.taken =
     either_way _ _ _ _ _ next.audience.heard
@@ -36,7 +46,7 @@ returns-clause-taken g c =
 pub returns-clause-same : goal.returns-clause-same
 returns-clause-same g c =
     let o = g.O.Operator in
-    let next = obeyed_one (both o.came o.reads) (both o.written o.writes) _ _ _ _ _ _ _ _ _ _
+    let next = obeyed_one (both o.came o.reads) (both o.written o.writes) _ _ _ _ _ _ _ _ _ _ _
     c.obeyed-after.ensures.obeys c.obeyed-after.ensures.cause c.is_stopping.ensures in
     rw c.tell.ensures.same
     (either_way _ _ _ _ _ next.audience.heard
@@ -47,7 +57,7 @@ returns-clause-same g c =
 pub returns-clause-same_errors : goal.returns-clause-same_errors
 returns-clause-same_errors g c =
     let o = g.O.Operator in
-    let next = obeyed_one (both o.came o.reads) (both o.written o.writes) _ _ _ _ _ _ _ _ _ _
+    let next = obeyed_one (both o.came o.reads) (both o.written o.writes) _ _ _ _ _ _ _ _ _ _ _
     c.obeyed-after.ensures.obeys c.obeyed-after.ensures.cause c.is_stopping.ensures in
     c.tell.ensures.same_errors
     ∙ either_way _ _ _ _ _ next.audience.heard
@@ -58,7 +68,7 @@ returns-clause-same_errors g c =
 pub returns-clause-notes : goal.returns-clause-notes
 returns-clause-notes g c =
     let o = g.O.Operator in
-    let next = obeyed_one (both o.came o.reads) (both o.written o.writes) _ _ _ _ _ _ _ _ _ _
+    let next = obeyed_one (both o.came o.reads) (both o.written o.writes) _ _ _ _ _ _ _ _ _ _ _
     c.obeyed-after.ensures.obeys c.obeyed-after.ensures.cause c.is_stopping.ensures in
     notices_more _ _ _
     (either_way _ _ _ _ _ next.audience.heard

@@ -11,12 +11,13 @@ invariant-loop g l =
     let o = g.O.Operator in
     let p = g.P.Peer in
     let door = both g.L.Callers.waiting g.L.Callers.history in
+    let errors = both g.E.Write.contents g.E.Tell.writes in
     record {
       some : l.counter ≤ l.self.progress.taken;
       all : Serves (both o.came o.reads) (both o.written o.writes) (both p.came p.reads) (both p.written p.writes)
           g.L.Callers.is_new s.shown g.K.Copies.made g.K.Copies.counted false
           (door l.fn.self.callers.now) (door l.self.callers.now) l.fn.self.progress l.self.progress
-          l.fn.watched.inner.now l.watched.inner.now;
+          (errors l.fn.self.errors.now) (errors l.self.errors.now) l.fn.watched.inner.now l.watched.inner.now;
       same : l.self.callers.ghost_name ≡ l.fn.self.callers.ghost_name;
       same_errors : l.self.errors.ghost_name ≡ l.fn.self.errors.ghost_name;
       notes : WritesNotices (g.E.Write.contents l.fn.self.errors.now) (g.E.Write.contents l.self.errors.now);

@@ -1,0 +1,66 @@
+-- What is noted of a store that is served.
+use Rattle.std.proofs.Common.{◌≡◌, ◌∙◌, ℕ, List, [], ◌∷◌, Option, Some, None, Result, Ok, Err, inl, inr, refl}
+use Rattle.std.proofs.Common.{subst, sym}
+use Rattle.histories.specs.Calls.{Writes}
+use Rattle.world.specs.declared.registry.StoreFault.{StoreFault}
+use Rattle.control.specs.Faults.{IsHeldBack}
+use Rattle.control.specs.Noted.{AreOf, AreUnheld, CountsIf, CountsUnmet, IsAbout, Noted, NotesFault, noted_line}
+use Rattle.control.specs.Notices.{Met, WritesLines}
+use Rattle.control.specs.Traffic.{was_found, was_published}
+use Rattle.control.specs.declared.faults.RecentFaults.{RecentFaults}
+use Rattle.control.specs.declared.store_call.StoreCall.{StoreCall}
+use Rattle.control.specs.declared.traffic.Traffic.{Traffic}
+use Rattle.control.specs.declared.traffic.Transfer.{Transfer}
+use Rattle.control.proofs.NoticeLemmas.{none_written, written_so}
+
+module _ (asked : StoreCall) (transfer : Transfer) (shelf : List ℕ) (before counts counts_new : Traffic)
+    (old noted new : Option Noted) (same : counts ≡ before) where
+  -- a call that looked for something, after which its fault was noted and then what it found was counted
+  pub found_counts : {X : Type 0} (told : Result (Option X) StoreFault) → NotesFault asked told old noted
+      → CountsIf (was_found told) transfer shelf counts counts_new noted new
+      → CountsUnmet (was_found told) asked told transfer shelf before counts_new old new
+  found_counts (Ok found) is some =
+      subst (λ t. CountsIf (was_found (Ok found)) transfer shelf t counts_new old new) same
+      (subst (λ n. CountsIf (was_found (Ok found)) transfer shelf counts counts_new n new) is some)
+  found_counts (Err fault) is some = (some.0 ∙ same, subst (IsAbout (Met asked fault)) (sym some.1) is)
+
+  -- so it is of a publish
+  pub published_counts : (told : Result (Unit {0}) StoreFault) → NotesFault asked told old noted
+      → CountsIf (was_published told) transfer shelf counts counts_new noted new
+      → CountsUnmet (was_published told) asked told transfer shelf before counts_new old new
+  published_counts (Ok done) is some =
+      subst (λ t. CountsIf (was_published (Ok done)) transfer shelf t counts_new old new) same
+      (subst (λ n. CountsIf (was_published (Ok done)) transfer shelf counts counts_new n new) is some)
+  published_counts (Err fault) is some = (some.0 ∙ same, subst (IsAbout (Met asked fault)) (sym some.1) is)
+
+-- ---- the lines of what is noted
+
+-- nothing was noted
+pub no_line : (noted : Option Noted) (a : Option (List ℕ) × Writes) → noted ≡ None → WritesLines (AreOf noted) a a
+no_line noted a is = none_written (AreOf noted) a (subst (λ n. AreOf n []) (sym is) refl)
+
+-- this was noted, and its line written
+pub its_line : (noted : Noted) (old : Option Noted) (a b : Option (List ℕ) × Writes) → old ≡ Some noted
+    → WritesLines (λ lines. lines ≡ noted_line noted ∷ []) a b → WritesLines (AreOf old) a b
+its_line noted old a b is written =
+    subst (λ o. WritesLines (AreOf o) a b) (sym is) written
+
+module _ (faults : RecentFaults) where
+  -- a store noted nothing
+  pub no_fault : (old : Option Noted) (a : Option (List ℕ) × Writes) → old ≡ None
+      → WritesLines (AreUnheld faults old) a a
+  no_fault old a is = none_written (AreUnheld faults old) a (subst (λ n. AreUnheld faults n []) (sym is) refl)
+
+  -- what it noted is held back
+  pub held_fault : (noted : Noted) (old : Option Noted) (a : Option (List ℕ) × Writes) → old ≡ Some noted
+      → IsHeldBack faults (noted_line noted) → WritesLines (AreUnheld faults old) a a
+  held_fault noted old a is held =
+      none_written (AreUnheld faults old) a (subst (λ n. AreUnheld faults n []) (sym is) (inr (refl, held)))
+
+  -- what it noted was written
+  pub its_fault : (noted : Noted) (old : Option Noted) (a b : Option (List ℕ) × Writes) → old ≡ Some noted
+      → WritesLines (λ lines. lines ≡ noted_line noted ∷ []) a b → WritesLines (AreUnheld faults old) a b
+  its_fault noted old a b is written =
+      subst (λ o. WritesLines (AreUnheld faults o) a b) (sym is)
+      (written_so (λ lines. lines ≡ noted_line noted ∷ []) (AreUnheld faults (Some noted)) a b (λ lines it. inl it)
+      written)

@@ -6,7 +6,7 @@ import glob
 import os
 import re
 import sys
-from collections.abc import Iterator
+from collections.abc import Callable, Iterator
 
 ROOT = os.path.dirname(os.path.dirname(os.path.realpath(__file__)))
 sys.path.append(os.path.join(ROOT, "deploy"))
@@ -20,9 +20,11 @@ __all__ = [
     "end_of",
     "functions_of",
     "is_of_tests",
+    "owners_in",
     "read",
     "sources_of",
     "take",
+    "without_angles",
     "wrong",
 ]
 
@@ -33,6 +35,7 @@ CLAUSE = re.compile(r"\b(?:(?:ensures|requires)(?: \w+)?|ghost \w+ =) (?=\{)")
 QUALIFIED = re.compile(r"<[^<>;]* as [^;{}()]*?>(?=::)")
 ARGUMENTS = re.compile(r"::<[^;{}()]*?>(?=\(|::)")
 FUNCTION = re.compile(r"(\bpub )?(?:\bconst )?\bfn (\w+)")
+BLOCK = re.compile(r"^(?:pub(?:\(crate\))? )?(impl|trait)\b([^{]*)(?=\{)", re.M)
 
 
 def read(name: str) -> str:
@@ -94,3 +97,24 @@ def length_of_head(text: str) -> int:
         if depth == 0 and found.group() in "{;":
             return found.start()
     return len(text)
+
+
+def owners_in(code: str) -> Callable[[int], tuple[str, bool]]:
+    """Returns what tells of a place in a source that `code_of` returned the name of the type or trait in whose block it
+    stands, or "", and whether a trait says which functions that block has."""
+    blocks = [(head.end(), end_of(code, head.end()), owner_of(*head.groups())) for head in BLOCK.finditer(code)]
+    return lambda at: next((named for first, last, named in blocks if first <= at < last), ("", False))
+
+
+def owner_of(kind: str, head: str) -> tuple[str, bool]:
+    """Returns the name of the type or trait of a block, and whether a trait says which functions it has."""
+    head = without_angles(head).split(" where ")[0]
+    owner = re.search(r"\w+", head.split(" for ")[-1].split("::")[-1])
+    return owner.group() if owner else "", kind == "trait" or " for " in head
+
+
+def without_angles(text: str) -> str:
+    """Returns a text without the arguments of types and the arrows in it."""
+    while (shorter := re.sub(r"<[^<>]*>", "", text.replace("->", ""))) != text:
+        text = shorter
+    return text

@@ -60,6 +60,6 @@ def test_file_is_read_as_often_as_the_page_says(opened: Opened) -> None:
 
 
 def test_opening_takes_the_memory_that_the_page_says(opened: Opened) -> None:
-    beside = re.search(r"as much memory as the zips\s+have,\s+and\s+(\d+)\s+MiB", read_page("OPERATING.md"))
+    beside = re.search(r"as much memory as\s+the zips\s+have,\s+plus\s+(\d+)\s+MiB", read_page("OPERATING.md"))
     zips = COUNT * ZIP
     assert zips < opened.memory < zips + int(beside[1]) * MIB + MARGIN

@@ -266,7 +266,7 @@ class TestNewcomers:
             if not can_be_nobody():
                 pytest.skip("no process can become nobody here")
             owner, before = 65534, [*ALONE, *NOBODY]
-        (end,) = re.findall(r"`(goshelf stop [^`]*)` ends it", PAGE)
+        (end,) = re.findall(r"`(goshelf stop [^`]*)` stops it", PAGE)
         kept = Kept(clone)
         before_it = 0.0 if os.path.exists(f"{clone}/out") else kept.lay()
         home, had_program = f"{os.path.dirname(clone)}/{request.param}", os.path.exists(f"{clone}/out")

@@ -248,7 +248,10 @@ def test_empty_file_of_another_user_stays_as_it_is(folder: str) -> None:
     new_store("s.db", ("alpha", KEY))
     write({RESERVE: ""})
     os.chown(RESERVE, 65534, 65534)
-    start("s.db").stop()
+    with start("s.db") as server:
+        # (the notice is written once peers may come, and before one is answered)
+        assert server.status(get(PATHS)) == 200
+        server.stop()
     assert os.stat(RESERVE).st_size == 0
     assert notices() == ["reserve: device"]
 

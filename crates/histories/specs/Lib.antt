@@ -1,4 +1,5 @@
 pub mod Account
+pub mod Asked
 pub mod Calls
 pub mod Counted
 pub mod End

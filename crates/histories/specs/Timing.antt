@@ -57,6 +57,8 @@ EachMayBegin allowed start (Moves bytes ∷ before) = EachMayBegin allowed start
 
 -- From old to new each read and each write began in time: the time that is allowed, in nanoseconds, for the bytes that
 -- were moved before, from the first reading of the clock after old.
+-- The system was asked for each bound among these calls, and set it: clause `asked` of `Hearing::bound` and
+-- `Telling::bound`.
 abbrev pub KeepsTime : (ℕ → ℕ) → List Call → List Call → Type 0
 KeepsTime allowed old new = ∥ ((since : List Call) × (new ≡ since ++ old) × EachMayBegin allowed old since) ∥₁
 

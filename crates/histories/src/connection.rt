@@ -3,6 +3,7 @@ ghost use Rattle.std.specs.Prelude.{◌≡◌, [], Some, IfOk};
 ghost use Rattle.histories.specs.Account.{IsUnused, new_account};
 
 use crate::hearing::{Hear, Hearing};
+use crate::socket::Socket;
 use crate::telling::Telling;
 use std::io::{self, Read, Write};
 use std::net::TcpStream;
@@ -30,20 +31,24 @@ impl<R: Read, W: Write> Connection<R, W> {
 
 /// Returns a connection over a socket, over which nothing has passed. Fails if the system gives no second handle of the
 /// socket.
-pub fn over_tcp(stream: TcpStream) -> io::Result<Connection<TcpStream, TcpStream>>
+pub fn over_tcp(stream: TcpStream) -> io::Result<Connection<Socket<TcpStream>, Socket<TcpStream>>>
     ensures { IfOk result (λ c. IsUnused
-        (⟦<Hearing<TcpStream> as Hear>⟧.account c.reader) (⟦<Telling<TcpStream> as Write>⟧.contents c.writer)) }
+        (⟦<Hearing<Socket<TcpStream>> as Hear>⟧.account c.reader)
+        (⟦<Telling<Socket<TcpStream>> as Write>⟧.contents c.writer)) }
 {
     let writer = stream.try_clone()?;
-    Ok(Connection::new(stream, writer))
+    Ok(Connection::new(Socket::new(stream), Socket::new(writer)))
 }
 
 /// Returns a connection over a Unix socket, over which nothing has passed. Fails if the system gives no second handle
 /// of the socket.
-pub fn over_unix(stream: UnixStream) -> io::Result<Connection<UnixStream, UnixStream>>
+pub fn over_unix(
+    stream: UnixStream,
+) -> io::Result<Connection<Socket<UnixStream>, Socket<UnixStream>>>
     ensures { IfOk result (λ c. IsUnused
-        (⟦<Hearing<UnixStream> as Hear>⟧.account c.reader) (⟦<Telling<UnixStream> as Write>⟧.contents c.writer)) }
+        (⟦<Hearing<Socket<UnixStream>> as Hear>⟧.account c.reader)
+        (⟦<Telling<Socket<UnixStream>> as Write>⟧.contents c.writer)) }
 {
     let writer = stream.try_clone()?;
-    Ok(Connection::new(stream, writer))
+    Ok(Connection::new(Socket::new(stream), Socket::new(writer)))
 }

@@ -1,5 +1,5 @@
 //! A reader that has a limited time.
-ghost use Rattle.std.specs.Prelude.{◌≡◌, refl, OnOk};
+ghost use Rattle.std.specs.Prelude.{◌≡◌, false, refl, OnOk};
 ghost use Rattle.histories.specs.Timing.{IsReady, KeepsTime, Since};
 
 use crate::deadline::{Deadline, Watch};
@@ -38,7 +38,9 @@ impl<'a, C: Clock, P: Deadline, K: Start, R: BoundRead + Drop> DeadlineReader<'a
     }
 
     /// Makes every later read fail that would wait. Fails if the system refuses that.
-    pub fn stop_waiting(&mut self) -> io::Result<()> {
+    pub fn stop_waiting(&mut self) -> io::Result<()>
+        ensures stops { OnOk result (self.new.waits ≡ false) }
+    {
         self.inner.stop_waiting()?;
         self.waits = false;
         Ok(())

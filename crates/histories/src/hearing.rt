@@ -4,8 +4,10 @@ ghost use Rattle.std.specs.Io.KnownBytes.{IsAtEnd};
 ghost use Rattle.histories.specs.End.{ended-prop};
 ghost use Rattle.std.specs.Io.{ReadsAtMost};
 ghost use Rattle.histories.specs.Account.{Account, GivesTo, IsSound, new_account};
+ghost use Rattle.histories.specs.Asked.{AsksFor};
 ghost use Rattle.histories.specs.Calls.{CallsRead, Reads, no_reads};
 ghost use Rattle.histories.specs.Counted.{times};
+ghost use Rattle.histories.specs.declared.ask.Ask.TheVariants as ask;
 ghost use Rattle.histories.specs.declared.call.Call.TheVariants as call;
 
 use crate::call::Call;
@@ -146,6 +148,8 @@ impl<R: BoundRead> Hearing<R> {
     pub(crate) fn look<C: Clock>(&mut self, clock: &C) -> io::Result<Instant>
         ensures account { ⟦<Hearing<R> as Hear>⟧.account self.new ≡ ⟦<Hearing<R> as Hear>⟧.account self.old }
         ensures reads { ⟦<Hearing<R> as Hear>⟧.reads self.new ≡ ⟦<Hearing<R> as Hear>⟧.reads self.old }
+        // The reader inside is asked nothing.
+        ensures asked { R.asked self.new.inner ≡ R.asked self.old.inner }
         ensures noted { MatchResult result (λ now. self.new.calls.calls ≡ call.Shows now ∷ self.old.calls.calls)
             (λ _. self.new.calls ≡ self.old.calls) }
     {
@@ -158,6 +162,8 @@ impl<R: BoundRead> Hearing<R> {
     pub(crate) fn bound(&mut self, longest: Duration) -> io::Result<()>
         ensures account { ⟦<Hearing<R> as Hear>⟧.account self.new ≡ ⟦<Hearing<R> as Hear>⟧.account self.old }
         ensures reads { ⟦<Hearing<R> as Hear>⟧.reads self.new ≡ ⟦<Hearing<R> as Hear>⟧.reads self.old }
+        // What is noted is what the reader inside was asked.
+        ensures asked { AsksFor (ask.BoundReads longest) (R.asked self.old.inner) (R.asked self.new.inner) result }
         ensures noted { MatchResult result (λ _. self.new.calls.calls ≡ call.Bounds longest ∷ self.old.calls.calls)
             (λ _. self.new.calls ≡ self.old.calls) }
     {
@@ -170,6 +176,8 @@ impl<R: BoundRead> Hearing<R> {
     pub(crate) fn stop_waiting(&mut self) -> io::Result<()>
         ensures account { ⟦<Hearing<R> as Hear>⟧.account self.new ≡ ⟦<Hearing<R> as Hear>⟧.account self.old }
         ensures reads { ⟦<Hearing<R> as Hear>⟧.reads self.new ≡ ⟦<Hearing<R> as Hear>⟧.reads self.old }
+        // What is noted is what the reader inside was asked.
+        ensures asked { AsksFor ask.StopWaiting (R.asked self.old.inner) (R.asked self.new.inner) result }
         ensures noted { MatchResult result (λ _. self.new.calls.calls ≡ call.Stops ∷ self.old.calls.calls)
             (λ _. self.new.calls ≡ self.old.calls) }
     {

@@ -5,6 +5,8 @@
 //! and no other.
 #![tactic(auto)]
 
+mod ask;
+mod asks;
 mod call;
 mod calls;
 mod connection;
@@ -15,10 +17,13 @@ mod deadline_writer;
 mod hearing;
 mod record;
 mod rolling_deadline_writer;
+mod socket;
 mod start;
 mod telling;
 mod wait;
 
+pub use ask::Ask;
+pub use asks::Asks;
 pub use call::Call;
 pub use calls::Calls;
 pub use connection::{Connection, over_tcp, over_unix};
@@ -28,6 +33,7 @@ pub use deadline_reader::DeadlineReader;
 pub use deadline_writer::DeadlineWriter;
 pub use hearing::{Hear, Hearing};
 pub use rolling_deadline_writer::RollingDeadlineWriter;
+pub use socket::Socket;
 pub use start::Start;
 pub use telling::{ResetDeadline, Tell, Telling};
 pub use wait::{BoundRead, BoundWrite, HasCalls};

@@ -2,8 +2,10 @@
 ghost use Rattle.std.specs.Prelude.{◌≡◌, ◌+◌, [], ◌∷◌, Some, MatchResult};
 ghost use Rattle.std.specs.Io.{WritesAtMost};
 ghost use Rattle.std.specs.Io.KnownBytes.{Keeps, WriteAppends};
+ghost use Rattle.histories.specs.Asked.{AsksFor};
 ghost use Rattle.histories.specs.Calls.{CallsFlush, CallsWrite, Writes, no_writes};
 ghost use Rattle.histories.specs.Counted.{times};
+ghost use Rattle.histories.specs.declared.ask.Ask.TheVariants as ask;
 ghost use Rattle.histories.specs.declared.call.Call.TheVariants as call;
 
 use crate::call::Call;
@@ -166,7 +168,10 @@ impl<W: BoundWrite> Telling<W> {
     /// Makes every later write that waits longer than this fail, or return what it wrote until then, and notes that.
     /// Fails if the bound can't be set.
     pub(crate) fn bound(&mut self, longest: Duration) -> io::Result<()>
-        ensures same { self.new ≡ record self.old { calls = self.new.calls } }
+        ensures same { self.new ≡ record self.old { inner = self.new.inner; calls = self.new.calls } }
+        ensures passed { W.contents self.new.inner ≡ W.contents self.old.inner }
+        // What is noted is what the writer inside was asked.
+        ensures asked { AsksFor (ask.BoundWrites longest) (W.asked self.old.inner) (W.asked self.new.inner) result }
         ensures noted { MatchResult result (λ _. self.new.calls.calls ≡ call.Bounds longest ∷ self.old.calls.calls)
             (λ _. self.new.calls ≡ self.old.calls) }
     {
@@ -176,7 +181,11 @@ impl<W: BoundWrite> Telling<W> {
     }
 
     /// Makes every later write fail, and the other side read an end. Fails if the system refuses that.
-    pub fn shut(&self) -> io::Result<()> {
+    pub fn shut(&mut self) -> io::Result<()>
+        ensures same { self.new ≡ record self.old { inner = self.new.inner } }
+        ensures passed { W.contents self.new.inner ≡ W.contents self.old.inner }
+        ensures asked { AsksFor ask.Shut (W.asked self.old.inner) (W.asked self.new.inner) result }
+    {
         self.inner.shut()
     }
 }

@@ -231,7 +231,7 @@ impl<R: BoundRead + Drop, W: BoundWrite + Drop> Peer for Connection<R, W> {
     /// Shuts the writing side, and drops what the peer sent after its message. Errors are ignored: the reply is
     /// written.
     fn end<C: Clock>(self, clock: &C, status: u16) -> Connection<R, W> {
-        let Connection { reader, writer } = self;
+        let Connection { reader, mut writer } = self;
         if writer.shut().is_err() {
             return Connection { reader, writer };
         }

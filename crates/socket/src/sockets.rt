@@ -4,7 +4,7 @@ ghost use Rattle.socket.specs.History.{IsUnheard};
 
 use crate::callers::Caller;
 use crate::connection::Peer;
-use histories::{Connection, over_tcp, over_unix};
+use histories::{Connection, Socket, over_tcp, over_unix};
 use mio::unix::SourceFd;
 use mio::{Events, Interest, Poll, Token};
 use std::alloc::Global;
@@ -16,10 +16,10 @@ use std::rt::HostRuntime;
 use std::time::Duration;
 
 /// A peer of a port.
-pub type SystemPeer = Connection<TcpStream, TcpStream>;
+pub type SystemPeer = Connection<Socket<TcpStream>, Socket<TcpStream>>;
 
 /// An operator of a Unix socket.
-pub type SystemOperator = Connection<UnixStream, UnixStream>;
+pub type SystemOperator = Connection<Socket<UnixStream>, Socket<UnixStream>>;
 
 /// A peer of a port, or an operator of a Unix socket.
 pub type SystemCaller = Caller<SystemPeer, SystemOperator>;

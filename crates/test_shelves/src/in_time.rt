@@ -2,7 +2,7 @@
 use crate::connections::{PUBLISHED, PUT};
 use crate::shelves::shelves;
 use engine::Io;
-use histories::{BoundRead, BoundWrite, Hearing, Telling};
+use histories::{Ask, Asks, BoundRead, BoundWrite, Hearing, Telling};
 use socket::answer_in_time;
 use std::alloc::Global;
 use std::cell::Cell;
@@ -40,11 +40,12 @@ fn clock(step: u64) -> Steps {
     }
 }
 
-/// A stream that never waits. It keeps how long its last call might have waited.
+/// A stream that never waits. It keeps how long its last call might have waited, and what it was asked.
 #[derive(Drop)]
 struct Bounded<'a, T> {
     inner: T,
     longest: &'a Cell<Duration>,
+    asked: Asks,
 }
 
 impl<'a, T: Read> Read for Bounded<'a, T> {
@@ -54,12 +55,16 @@ impl<'a, T: Read> Read for Bounded<'a, T> {
 }
 
 impl<'a, T: Read> BoundRead for Bounded<'a, T> {
-    fn bound_reads(&self, longest: Duration) -> io::Result<()> {
+    ghost asked = { λ b. b.asked.asks };
+
+    fn bound_reads(&mut self, longest: Duration) -> io::Result<()> {
         self.longest.set(longest);
+        self.asked.note(&[Ask::BoundReads(longest)]);
         Ok(())
     }
 
-    fn stop_waiting(&self) -> io::Result<()> {
+    fn stop_waiting(&mut self) -> io::Result<()> {
+        self.asked.note(&[Ask::StopWaiting]);
         Ok(())
     }
 }
@@ -75,12 +80,16 @@ impl<'a, T: Write> Write for Bounded<'a, T> {
 }
 
 impl<'a, T: Write> BoundWrite for Bounded<'a, T> {
-    fn bound_writes(&self, longest: Duration) -> io::Result<()> {
+    ghost asked = { λ b. b.asked.asks };
+
+    fn bound_writes(&mut self, longest: Duration) -> io::Result<()> {
         self.longest.set(longest);
+        self.asked.note(&[Ask::BoundWrites(longest)]);
         Ok(())
     }
 
-    fn shut(&self) -> io::Result<()> {
+    fn shut(&mut self) -> io::Result<()> {
+        self.asked.note(&[Ask::Shut]);
         Ok(())
     }
 }
@@ -132,10 +141,12 @@ fn answer_timed<W: Write + Drop>(
     let reader = Bounded {
         inner: first.chain(last),
         longest: &waits.read,
+        asked: Asks::new(),
     };
     let writer = Bounded {
         inner: writer,
         longest: &waits.write,
+        asked: Asks::new(),
     };
     Ok(timed_from(alloc, shelves(alloc)?, step, reader, writer))
 }

@@ -1,0 +1,48 @@
+//! Handles of sockets, whose waits the system bounds.
+ghost use Rattle.std.specs.Prelude.{◌≡◌, []};
+
+mod tcp;
+mod unix;
+
+use crate::asks::Asks;
+use std::io::{self, Read, Write};
+
+/// One handle of a socket, with an account of what the system was asked about its waits. The account takes no memory.
+#[derive(Drop)]
+pub struct Socket<S> {
+    stream: S,
+    asked: Asks,
+}
+
+impl<S> Socket<S> {
+    /// Returns the handle. Nothing was asked about its waits so far.
+    pub fn new(stream: S) -> Socket<S>
+        ensures same { result.stream ≡ stream }
+        ensures asked { result.asked.asks ≡ [] }
+    {
+        Socket {
+            stream,
+            asked: Asks::new(),
+        }
+    }
+}
+
+impl<S: Read> Read for Socket<S> {
+    ghost remaining = { λ s. S.remaining s.stream };
+
+    fn read(&mut self, buf: &mut [u8]) -> io::Result<usize> {
+        self.stream.read(buf)
+    }
+}
+
+impl<S: Write> Write for Socket<S> {
+    ghost contents = { λ s. S.contents s.stream };
+
+    fn write(&mut self, buf: &[u8]) -> io::Result<usize> {
+        self.stream.write(buf)
+    }
+
+    fn flush(&mut self) -> io::Result<()> {
+        self.stream.flush()
+    }
+}

@@ -20,8 +20,9 @@ module _ (allowed : ℕ → ℕ) (old : List Call) where
       same = refl;
       each = tt;
       began = λ now. refl;
-      most = omega arith;
+      exact = omega arith;
       stopped = λ never. absurd (let e = never in cc);
+      unshut = λ never. never;
     } ∣₁,
   ) ∣₁
 

@@ -1,5 +1,5 @@
 -- One more call of a stream in time.
-use Rattle.std.proofs.Common.{ℕ, ◌+◌, ◌-◌, ◌<◌, ◌≤◌, ◌≡◌, refl, sym, ap, ◌∙◌, subst, List, ◌∷◌, Bool, false, Option}
+use Rattle.std.proofs.Common.{ℕ, ◌+◌, ◌-◌, ◌^◌, ◌<◌, min, ◌≡◌, refl, sym, ap, ◌∙◌, subst, List, ◌∷◌, Bool, false, Option}
 use Rattle.std.proofs.Common.{Some, None, Result, Ok, Err, MatchOption, MatchResult, IfSome, OnOk, arith}
 use Rattle.std.proofs.Math.Logic.{∥∥₁_map}
 use Rattle.std.specs.Duration.{as_nanos}
@@ -9,7 +9,7 @@ use Rattle.std.specs.declared.time.Instant.{Instant}
 use Rattle.histories.specs.declared.call.Call.{Call}
 use Rattle.histories.specs.declared.call.Call.TheVariants.{Shows, Bounds, Stops, Begins, Moves}
 use Rattle.histories.specs.declared.calls.Calls.{Calls}
-use Rattle.histories.specs.Timing.{moved_in, first_shown, IsStopped, IsLeft, MayBegin, KeepsTime, BeganAt, Since}
+use Rattle.histories.specs.Timing.{first_shown, IsStopped, IsLeft, MayBegin, KeepsTime, BeganAt, Since}
 use Rattle.histories.specs.Timing.{IsReady}
 
 -- the time began at this reading, or before
@@ -39,8 +39,9 @@ module _ {allowed : ℕ → ℕ} {start : List Call} where
     same = same ∙ ap (λ l. Shows now ∷ l) s.same;
     each = s.each;
     began = shown_began first first_new now s.since is s.began;
-    most = rw unmoved s.most;
+    exact = unmoved ∙ s.exact;
     stopped = λ w. subst IsStopped (sym same) (s.stopped w);
+    unshut = s.unshut;
   }
 
   abbrev pub bounded : (first : Option Instant) (moved : ℕ) (waits : Bool) (calls calls_new : List Call)
@@ -52,8 +53,9 @@ module _ {allowed : ℕ → ℕ} {start : List Call} where
     same = same ∙ ap (λ l. Bounds longest ∷ l) s.same;
     each = s.each;
     began = still_began first s.since (Bounds longest ∷ s.since) (λ n. refl) s.began;
-    most = s.most;
+    exact = s.exact;
     stopped = λ w. subst IsStopped (sym same) (s.stopped w);
+    unshut = s.unshut;
   }
 
   pub stops : (first : Option Instant) (moved : ℕ) (waits : Bool) (calls calls_new : List Call)
@@ -64,8 +66,9 @@ module _ {allowed : ℕ → ℕ} {start : List Call} where
     same = same ∙ ap (λ l. Stops ∷ l) s.same;
     each = s.each;
     began = still_began first s.since (Stops ∷ s.since) (λ n. refl) s.began;
-    most = s.most;
+    exact = s.exact;
     stopped = λ w. subst IsStopped (sym same) tt;
+    unshut = s.unshut;
   }
 
   begun : (first : Option Instant) (moved : ℕ) (waits : Bool) (calls calls_new : List Call) → calls_new ≡ Begins ∷ calls
@@ -74,37 +77,36 @@ module _ {allowed : ℕ → ℕ} {start : List Call} where
   begun first moved waits calls calls_new same s may = record {
     since = Begins ∷ s.since;
     same = same ∙ ap (λ l. Begins ∷ l) s.same;
-    each = (may, s.each);
+    each = (may, s.unshut, s.each);
     began = still_began first s.since (Begins ∷ s.since) (λ n. refl) s.began;
-    most = s.most;
+    exact = s.exact;
     stopped = λ w. subst IsStopped (sym same) (s.stopped w);
+    unshut = s.unshut;
   }
 
   ended : (first : Option Instant) (moved moved_new : ℕ) (waits : Bool) (calls calls_new : List Call) (n : ℕ)
-      → calls_new ≡ Moves n ∷ calls → moved_new ≤ moved + n
+      → calls_new ≡ Moves n ∷ calls → moved_new ≡ min (moved + n) (2 ^ 64 - 1)
       → Since allowed start first moved waits calls → Since allowed start first moved_new waits calls_new
-  ended first moved moved_new waits calls calls_new n same most s = record {
+  ended first moved moved_new waits calls calls_new n same count s = record {
     since = Moves n ∷ s.since;
     same = same ∙ ap (λ l. Moves n ∷ l) s.same;
     each = s.each;
     began = still_began first s.since (Moves n ∷ s.since) (λ k. refl) s.began;
-    most = omega (arith, most, s.most);
+    exact = omega (arith, count, s.exact);
     stopped = λ w. subst IsStopped (sym same) (s.stopped w);
+    unshut = s.unshut;
   }
 
   is_left : (first first_new : Option Instant) (moved : ℕ) (waits : Bool) (calls : List Call) (now : Instant) (left : ℕ)
-      → ((few many : ℕ) → few ≤ many → allowed few ≤ allowed many)
       → BeginsBy first first_new now → 0 < left
-      → IfSome first_new (λ t. (instant_nanos now - instant_nanos t) + left ≤ allowed moved)
+      → IfSome first_new (λ t. (instant_nanos now - instant_nanos t) + left ≡ allowed moved)
       → (s : Since allowed start first moved waits calls) → IsLeft allowed s.since now left
-  is_left None first_new moved waits calls now left grows is some within s =
-      let least = grows moved (moved_in s.since) s.most in
-      let limit : (instant_nanos now - instant_nanos now) + left ≤ allowed moved = rw is at within in
-      (some, rw (s.began (instant_nanos now)) (omega (arith, least, limit)))
-  is_left (Some t) first_new moved waits calls now left grows is some within s =
-      let least = grows moved (moved_in s.since) s.most in
-      let limit : (instant_nanos now - instant_nanos t) + left ≤ allowed moved = rw is at within in
-      (some, rw (s.began (instant_nanos now)) (omega (arith, least, limit)))
+  is_left None first_new moved waits calls now left is some within s =
+      let limit : (instant_nanos now - instant_nanos now) + left ≡ allowed moved = rw is at within in
+      (some, rw (s.began (instant_nanos now)) (limit ∙ ap allowed s.exact))
+  is_left (Some t) first_new moved waits calls now left is some within s =
+      let limit : (instant_nanos now - instant_nanos t) + left ≡ allowed moved = rw is at within in
+      (some, rw (s.began (instant_nanos now)) (limit ∙ ap allowed s.exact))
 
   -- ---- after the clock was read
 
@@ -115,9 +117,8 @@ module _ {allowed : ℕ → ℕ} {start : List Call} where
         → ∥ Since allowed start first_new moved_new waits b.calls ∥₁
     late waits since = ∥∥₁_map since (shown first first_new moved moved_new waits a.calls b.calls now is unmoved looked)
 
-    module _ (left : Duration) (grows : (few many : ℕ) → few ≤ many → allowed few ≤ allowed many)
-        (some : 0 < as_nanos left)
-        (within : IfSome first_new (λ t. (instant_nanos now - instant_nanos t) + as_nanos left ≤ allowed moved)) where
+    module _ (left : Duration) (some : 0 < as_nanos left)
+        (within : IfSome first_new (λ t. (instant_nanos now - instant_nanos t) + as_nanos left ≡ allowed moved)) where
       module _ (waits : Bool) (c : Calls) {E : Type 0} where
         -- the wait was bounded, or could not be
         pub ready : (result : Result (Unit {0}) E)
@@ -127,7 +128,7 @@ module _ {allowed : ℕ → ℕ} {start : List Call} where
         ready (Ok u) same since = ∥∥₁_map since (λ s. (
           bounded first_new moved_new waits b.calls c.calls left same
               (shown first first_new moved moved_new waits a.calls b.calls now is unmoved looked s),
-          is_left first first_new moved waits a.calls now (as_nanos left) grows is some within s,
+          is_left first first_new moved waits a.calls now (as_nanos left) is some within s,
         ))
         ready (Err e) same since = tt
 
@@ -145,9 +146,9 @@ module _ {allowed : ℕ → ℕ} {start : List Call} where
       pub ready_at_once : (waits : Bool) → waits ≡ false
           → ∥ Since allowed start first moved waits a.calls ∥₁ → IsReady allowed start first_new moved_new waits b.calls
       ready_at_once waits none since = ∥∥₁_map since (λ s.
-          let full = is_left first first_new moved waits a.calls now (as_nanos left) grows is some within s in (
+          let full = is_left first first_new moved waits a.calls now (as_nanos left) is some within s in (
             shown first first_new moved moved_new waits a.calls b.calls now is unmoved looked s,
-            ((omega arith, omega (arith, full.1, some)), subst IsStopped s.same (s.stopped none)),
+            ((as_nanos left, full), subst IsStopped s.same (s.stopped none)),
           ))
 
 -- ---- after a read or a write
@@ -155,10 +156,10 @@ module _ {allowed : ℕ → ℕ} {start : List Call} where
 module _ {allowed : ℕ → ℕ} {start : List Call} (first : Option Instant) (moved : ℕ) (waits : Bool) where
   -- it moved these bytes
   pub moves : (calls calls_new : List Call) (moved_new n : ℕ) → calls_new ≡ Moves n ∷ Begins ∷ calls
-      → moved_new ≤ moved + n
+      → moved_new ≡ min (moved + n) (2 ^ 64 - 1)
       → IsReady allowed start first moved waits calls → ∥ Since allowed start first moved_new waits calls_new ∥₁
-  moves calls calls_new moved_new n same most ready = ∥∥₁_map ready (λ r.
-      ended first moved moved_new waits (Begins ∷ calls) calls_new n same most
+  moves calls calls_new moved_new n same count ready = ∥∥₁_map ready (λ r.
+      ended first moved moved_new waits (Begins ∷ calls) calls_new n same count
       (begun first moved waits calls (Begins ∷ calls) refl r.0 r.1))
 
   -- it failed

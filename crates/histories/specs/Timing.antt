@@ -1,10 +1,11 @@
 -- How long reads and writes may wait. Lists of calls have the last call first.
-use Rattle.std.specs.Prelude.{ℕ, ◌≡◌, ◌+◌, ◌-◌, ◌<◌, ◌≤◌, Bool, true, false, List, [], ◌∷◌, ◌++◌, Option, Some, None, ⊤}
+use Rattle.std.specs.Prelude.{ℕ, ◌≡◌, ◌+◌, ◌-◌, ◌^◌, ◌<◌, min, Bool, true, false, List, [], ◌∷◌, ◌++◌, Option, Some}
+use Rattle.std.specs.Prelude.{None, ⊤}
 use Rattle.std.specs.Duration.{as_nanos}
 use Rattle.std.specs.Time.{instant_nanos}
 use Rattle.std.specs.declared.time.Instant.{Instant}
 use Rattle.histories.specs.declared.call.Call.{Call}
-use Rattle.histories.specs.declared.call.Call.TheVariants.{Shows, Bounds, Stops, Begins, Moves}
+use Rattle.histories.specs.declared.call.Call.TheVariants.{Shows, Bounds, Stops, Begins, Moves, Shuts}
 
 -- the bytes that these calls moved
 abbrev pub moved_in : List Call → ℕ
@@ -14,6 +15,11 @@ moved_in (Bounds longest ∷ before) = moved_in before
 moved_in (Stops ∷ before) = moved_in before
 moved_in (Begins ∷ before) = moved_in before
 moved_in (Moves bytes ∷ before) = moved_in before + bytes
+moved_in (Shuts ∷ before) = moved_in before
+
+-- what a count of these bytes shows that ends at 2 ^ 64 - 1
+abbrev pub counted : ℕ → ℕ
+counted bytes = min bytes (2 ^ 64 - 1)
 
 -- the first reading of the clock among these calls, in nanoseconds, or this one if there is none
 abbrev pub first_shown : ℕ → List Call → ℕ
@@ -23,6 +29,7 @@ first_shown now (Bounds longest ∷ before) = first_shown now before
 first_shown now (Stops ∷ before) = first_shown now before
 first_shown now (Begins ∷ before) = first_shown now before
 first_shown now (Moves bytes ∷ before) = first_shown now before
+first_shown now (Shuts ∷ before) = first_shown now before
 
 -- by one of these calls each later wait was ruled out
 abbrev pub IsStopped : List Call → Type 0
@@ -32,31 +39,45 @@ IsStopped (Bounds longest ∷ before) = IsStopped before
 IsStopped (Stops ∷ before) = ⊤
 IsStopped (Begins ∷ before) = IsStopped before
 IsStopped (Moves bytes ∷ before) = IsStopped before
+IsStopped (Shuts ∷ before) = IsStopped before
 
--- The clock showed this after these calls. So much of the time is left that began with the first reading, and some is.
+-- by one of these calls the writing side was to be shut
+abbrev pub IsShut : List Call → Type 0
+IsShut [] = ⊥
+IsShut (Shows now ∷ before) = IsShut before
+IsShut (Bounds longest ∷ before) = IsShut before
+IsShut (Stops ∷ before) = IsShut before
+IsShut (Begins ∷ before) = IsShut before
+IsShut (Moves bytes ∷ before) = IsShut before
+IsShut (Shuts ∷ before) = ⊤
+
+-- The clock showed this after these calls. Exactly so much of the time is left that began with the first reading, and
+-- some is.
 abbrev pub IsLeft : (ℕ → ℕ) → List Call → Instant → ℕ → Type 0
 IsLeft allowed before now left =
-    (0 < left) × ((instant_nanos now - first_shown (instant_nanos now) before) + left ≤ allowed (moved_in before))
+    (0 < left)
+    × ((instant_nanos now - first_shown (instant_nanos now) before) + left ≡ allowed (counted (moved_in before)))
 
 -- A read or a write that begins after these calls, which came after the ones at the start, begins in time: the clock
--- was read, some time was left by it, and then the wait was bounded by no more than that, or waits were ruled out
--- before.
+-- was read, some time was left by it, and then the wait was bounded by just that, or waits were ruled out before.
 abbrev pub MayBegin : (ℕ → ℕ) → List Call → List Call → Type 0
 MayBegin allowed start (Bounds longest ∷ Shows now ∷ before) = IsLeft allowed before now (as_nanos longest)
-MayBegin allowed start (Shows now ∷ before) = IsLeft allowed before now 1 × IsStopped (before ++ start)
+MayBegin allowed start (Shows now ∷ before) = ((left : ℕ) × IsLeft allowed before now left) × IsStopped (before ++ start)
 MayBegin allowed start other = ⊥
 
--- each read and each write among these calls began in time
+-- each read and each write among these calls began in time, and none after the writing side was to be shut
 abbrev pub EachMayBegin : (ℕ → ℕ) → List Call → List Call → Type 0
 EachMayBegin allowed start [] = ⊤
 EachMayBegin allowed start (Shows now ∷ before) = EachMayBegin allowed start before
 EachMayBegin allowed start (Bounds longest ∷ before) = EachMayBegin allowed start before
 EachMayBegin allowed start (Stops ∷ before) = EachMayBegin allowed start before
-EachMayBegin allowed start (Begins ∷ before) = MayBegin allowed start before × EachMayBegin allowed start before
+EachMayBegin allowed start (Begins ∷ before) =
+    MayBegin allowed start before × (¬ (IsShut before)) × EachMayBegin allowed start before
 EachMayBegin allowed start (Moves bytes ∷ before) = EachMayBegin allowed start before
+EachMayBegin allowed start (Shuts ∷ before) = EachMayBegin allowed start before
 
 -- From old to new each read and each write began in time: the time that is allowed, in nanoseconds, for the bytes that
--- were moved before, from the first reading of the clock after old.
+-- were moved before, from the first reading of the clock after old. None began after a call to shut the writing side.
 -- The system was asked for each bound among these calls, and set it: clause `asked` of `Hearing::bound` and
 -- `Telling::bound`.
 abbrev pub KeepsTime : (ℕ → ℕ) → List Call → List Call → Type 0
@@ -79,15 +100,17 @@ abbrev pub BeganAt : Option Instant → List Call → Type 0
 BeganAt None since = (now : ℕ) → first_shown now since ≡ now
 BeganAt (Some first) since = (now : ℕ) → first_shown now since ≡ instant_nanos first
 
--- These calls came since the start, with the ones at it. The time began then, and at least so many bytes were moved.
+-- These calls came since the start, with the ones at it. The time began then, so many bytes were counted, and nothing was
+-- shut.
 pub record Since (allowed : ℕ → ℕ) (start : List Call) (first : Option Instant) (moved : ℕ) (waits : Bool)
     (calls : List Call) : Type 0 where
   pub since : List Call
   pub same : calls ≡ since ++ start
   pub each : EachMayBegin allowed start since
   pub began : BeganAt first since
-  pub most : moved ≤ moved_in since
+  pub exact : moved ≡ counted (moved_in since)
   pub stopped : waits ≡ false → IsStopped calls
+  pub unshut : ¬ (IsShut since)
 
 -- so it is, and a read or a write may begin
 abbrev pub IsReady : (ℕ → ℕ) → List Call → Option Instant → ℕ → Bool → List Call → Type 0

@@ -15,4 +15,6 @@ pub enum Call {
     Begins,
     /// It moved this many bytes.
     Moves(usize),
+    /// The writing side was to be shut. Where the system refused that, it may be shut all the same.
+    Shuts,
 }

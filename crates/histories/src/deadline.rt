@@ -1,5 +1,6 @@
 //! How long a stream may take.
-ghost use Rattle.std.specs.Prelude.{◌≡◌, ◌+◌, ◌-◌, ◌<◌, ◌≤◌, IfOk, IfSome, MatchOption, Some, None};
+ghost use Rattle.std.specs.Prelude.{◌≡◌, ◌+◌, ◌-◌, ◌^◌, ◌<◌, ◌≤◌, min, IfOk, IfErr, IfSome};
+ghost use Rattle.std.specs.Prelude.{MatchOption, Some, None};
 ghost use Rattle.std.specs.Duration.{as_nanos};
 ghost use Rattle.std.specs.Time.{instant_nanos};
 
@@ -50,7 +51,9 @@ impl<P: Deadline> Watch<P> {
         ensures moved { self.new.moved ≡ self.old.moved }
         ensures some { IfOk result (λ left. 0 < as_nanos left) }
         ensures within { IfOk result (λ left. IfSome self.new.first (λ first.
-            (instant_nanos now - instant_nanos first) + as_nanos left ≤ P.allowed self.old.moved)) }
+            (instant_nanos now - instant_nanos first) + as_nanos left ≡ P.allowed self.old.moved)) }
+        ensures over { IfErr result (λ _. IfSome self.new.first (λ first.
+            P.allowed self.old.moved ≤ instant_nanos now - instant_nanos first)) }
     {
         let first = *self.first.get_or_insert(now);
         let time = P::time_for(self.moved);
@@ -63,7 +66,7 @@ impl<P: Deadline> Watch<P> {
     /// Adds to the bytes that were moved, up to `u64::MAX`.
     pub(crate) fn count(&mut self, bytes: usize)
         ensures first { self.new.first ≡ self.old.first }
-        ensures moved { self.new.moved ≤ self.old.moved + bytes }
+        ensures moved { self.new.moved ≡ min (self.old.moved + bytes) (2 ^ 64 - 1) }
     {
         self.moved = self.moved.saturating_add(bytes as u64);
     }

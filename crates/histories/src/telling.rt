@@ -180,12 +180,15 @@ impl<W: BoundWrite> Telling<W> {
         Ok(())
     }
 
-    /// Makes every later write fail, and the other side read an end. Fails if the system refuses that.
+    /// Makes every later write fail, and the other side read an end, and notes that it was asked to. Fails if the system
+    /// refuses that.
     pub fn shut(&mut self) -> io::Result<()>
-        ensures same { self.new ≡ record self.old { inner = self.new.inner } }
+        ensures same { self.new ≡ record self.old { inner = self.new.inner; calls = self.new.calls } }
         ensures passed { W.contents self.new.inner ≡ W.contents self.old.inner }
         ensures asked { AsksFor ask.Shut (W.asked self.old.inner) (W.asked self.new.inner) result }
+        ensures noted { self.new.calls.calls ≡ call.Shuts ∷ self.old.calls.calls }
     {
+        self.calls.note(&[Call::Shuts]);
         self.inner.shut()
     }
 }

@@ -8,11 +8,11 @@ returns-in_err-left-clause-since g c = λ start since.
 pub returns-clause-since : goal.returns-clause-since
 returns-clause-since g c = λ start since.
     after _ _ _ _ _ _ _ c.left.ensures.begins c.left.ensures.moved c.in_ok-now.ensures.noted c.in_ok-left.left
-    g.met.P.Deadline.grows c.in_ok-left.ensures.some c.in_ok-left.ensures.within _ _ c.bound.result
+    c.in_ok-left.ensures.some c.in_ok-left.ensures.within _ _ c.bound.result
     c.bound.ensures.noted since
 
 pub returns-clause-ready : goal.returns-clause-ready
 returns-clause-ready g c = λ start since.
     ready _ _ _ _ _ _ _ c.left.ensures.begins c.left.ensures.moved c.in_ok-now.ensures.noted c.in_ok-left.left
-    g.met.P.Deadline.grows c.in_ok-left.ensures.some c.in_ok-left.ensures.within _ _ c.bound.result
+    c.in_ok-left.ensures.some c.in_ok-left.ensures.within _ _ c.bound.result
     c.bound.ensures.noted since

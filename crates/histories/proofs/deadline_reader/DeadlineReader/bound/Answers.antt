@@ -10,7 +10,7 @@ invariant_of-self-in-Break-branch-2 g c = record {
 pub invariant_of-self-then-self : goal.invariant_of-self-then-self
 invariant_of-self-then-self g c = record {
   since = after _ _ _ _ _ _ _ c.left.ensures.begins c.left.ensures.moved c.in_ok-now.ensures.noted c.in_ok-left.left
-      g.met.P.Deadline.grows c.in_ok-left.ensures.some c.in_ok-left.ensures.within _ _ c.bound.result
+      c.in_ok-left.ensures.some c.in_ok-left.ensures.within _ _ c.bound.result
       c.bound.ensures.noted
       c.args.self.now.since;
 }
@@ -24,11 +24,11 @@ invariant_of-self-else-self g c = record {
 pub returns-then-self-clause-ready : goal.returns-then-self-clause-ready
 returns-then-self-clause-ready g c =
     ready _ _ _ _ _ _ _ c.left.ensures.begins c.left.ensures.moved c.in_ok-now.ensures.noted c.in_ok-left.left
-    g.met.P.Deadline.grows c.in_ok-left.ensures.some c.in_ok-left.ensures.within _ _ c.bound.result
+    c.in_ok-left.ensures.some c.in_ok-left.ensures.within _ _ c.bound.result
     c.bound.ensures.noted
     c.args.self.now.since
 
 pub returns-else-self-clause-ready : goal.returns-else-self-clause-ready
 returns-else-self-clause-ready g c =
     ready_at_once _ _ _ _ _ _ _ c.left.ensures.begins c.left.ensures.moved c.in_ok-now.ensures.noted c.in_ok-left.left
-    g.met.P.Deadline.grows c.in_ok-left.ensures.some c.in_ok-left.ensures.within _ c.if-self.false c.args.self.now.since
+    c.in_ok-left.ensures.some c.in_ok-left.ensures.within _ c.if-self.false c.args.self.now.since

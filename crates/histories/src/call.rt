@@ -7,14 +7,20 @@ use std::time::{Duration, Instant};
 pub enum Call {
     /// The clock was read, and showed this.
     Shows(Instant),
+    /// The clock could not be read.
+    Unshown,
     /// Each later wait was bounded by this.
     Bounds(Duration),
+    /// They could not be bounded by this.
+    Unbound(Duration),
     /// Each later wait was ruled out.
     Stops,
     /// A read or a write began.
     Begins,
     /// It moved this many bytes.
     Moves(usize),
+    /// A read or a write was refused before it began.
+    Refused,
     /// The writing side was to be shut. Where the system refused that, it may be shut all the same.
     Shuts,
 }

@@ -1,6 +1,6 @@
 //! A reader that has a limited time.
-ghost use Rattle.std.specs.Prelude.{◌≡◌, false, refl, OnOk};
-ghost use Rattle.histories.specs.Timing.{IsReady, KeepsTime, Since};
+ghost use Rattle.std.specs.Prelude.{◌≡◌, false, refl, IfErr, OnOk};
+ghost use Rattle.histories.specs.Timing.{IsLate, IsReady, KeepsTime, Since};
 
 use crate::deadline::{Deadline, Watch};
 use crate::hearing::{Hear, Hearing};
@@ -61,6 +61,8 @@ impl<'a, C: Clock, P: Deadline, K: Start, R: BoundRead + Drop> DeadlineReader<'a
             ≡ ⟦<Hearing<R> as Hear>⟧.account self.old.inner }
         ensures reads { ⟦<Hearing<R> as Hear>⟧.reads self.new.inner ≡ ⟦<Hearing<R> as Hear>⟧.reads self.old.inner }
         ensures ready { OnOk result (IsReady P.allowed K.calls
+            self.new.watch.first self.new.watch.moved self.new.waits self.new.inner.calls.calls) }
+        ensures late { IfErr result (λ _. IsLate P.allowed K.calls
             self.new.watch.first self.new.watch.moved self.new.waits self.new.inner.calls.calls) }
     {
         let now = self.inner.look(self.clock)?;

@@ -1,9 +1,9 @@
 //! A writer that has a limited time.
-ghost use Rattle.std.specs.Prelude.{◌≡◌, true, List, OnOk};
+ghost use Rattle.std.specs.Prelude.{◌≡◌, true, List, IfErr, OnOk};
 ghost use Rattle.std.specs.Io.{WritesAtMost};
 ghost use Rattle.std.specs.Io.KnownBytes.{WriteAppends};
 ghost use Rattle.histories.specs.Calls.{CallsWrite};
-ghost use Rattle.histories.specs.Timing.{IsReady, KeepsTime, Since, StaysSince};
+ghost use Rattle.histories.specs.Timing.{IsLate, IsReady, KeepsTime, Since, StaysSince};
 ghost use Rattle.histories.specs.declared.call.Call.{Call};
 
 use crate::deadline::{Deadline, Watch};
@@ -82,11 +82,12 @@ fn bound<C: Clock, P: Deadline, W: BoundWrite + Drop>(
 ) -> io::Result<()>
     ensures contents { ⟦<Telling<W> as Write>⟧.contents inner.new ≡ ⟦<Telling<W> as Write>⟧.contents inner.old }
     ensures writes { ⟦<Telling<W> as Tell>⟧.writes inner.new ≡ ⟦<Telling<W> as Tell>⟧.writes inner.old }
-    ensures since { StaysSince P.allowed watch.old.first watch.new.first watch.old.moved watch.new.moved
-        inner.old.calls.calls inner.new.calls.calls }
     ensures ready { (start : List Call)
         → ∥ Since P.allowed start watch.old.first watch.old.moved true inner.old.calls.calls ∥₁
         → OnOk result (IsReady P.allowed start watch.new.first watch.new.moved true inner.new.calls.calls) }
+    ensures late { (start : List Call)
+        → ∥ Since P.allowed start watch.old.first watch.old.moved true inner.old.calls.calls ∥₁
+        → IfErr result (λ _. IsLate P.allowed start watch.new.first watch.new.moved true inner.new.calls.calls) }
 {
     let now = inner.look(clock)?;
     let left = watch.left(now)?;

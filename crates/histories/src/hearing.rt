@@ -73,14 +73,15 @@ impl<R: Read> Hearing<R> {
 }
 
 impl<R: Read> Hearing<R> {
-    /// Notes a call that failed before it came to the reader.
+    /// Notes a call that was refused before it came to the reader, as one that failed.
     pub(crate) fn refuse(&mut self)
         ensures account { ⟦<Hearing<R> as Hear>⟧.account self.new ≡ ⟦<Hearing<R> as Hear>⟧.account self.old }
         ensures reads { ⟦<Hearing<R> as Hear>⟧.reads self.new ≡ record (⟦<Hearing<R> as Hear>⟧.reads self.old)
             { failed = times self.old.failed + 1 } }
-        ensures calls { self.new.calls ≡ self.old.calls }
+        ensures noted { self.new.calls.calls ≡ call.Refused ∷ self.old.calls.calls }
     {
         self.failed.one_more();
+        self.calls.note(&[Call::Refused]);
     }
 }
 
@@ -144,32 +145,47 @@ impl<R: Read> HasCalls for Hearing<R> {
 }
 
 impl<R: BoundRead> Hearing<R> {
-    /// Reads the clock, and notes what it shows. Fails if it can't be read.
+    /// Reads the clock, and notes what it shows, or that it can't be read. Fails if it can't.
     pub(crate) fn look<C: Clock>(&mut self, clock: &C) -> io::Result<Instant>
         ensures account { ⟦<Hearing<R> as Hear>⟧.account self.new ≡ ⟦<Hearing<R> as Hear>⟧.account self.old }
         ensures reads { ⟦<Hearing<R> as Hear>⟧.reads self.new ≡ ⟦<Hearing<R> as Hear>⟧.reads self.old }
         // The reader inside is asked nothing.
         ensures asked { R.asked self.new.inner ≡ R.asked self.old.inner }
         ensures noted { MatchResult result (λ now. self.new.calls.calls ≡ call.Shows now ∷ self.old.calls.calls)
-            (λ _. self.new.calls ≡ self.old.calls) }
+            (λ _. self.new.calls.calls ≡ call.Unshown ∷ self.old.calls.calls) }
     {
-        let now = Instant::now(clock)?;
-        self.calls.note(&[Call::Shows(now)]);
-        Ok(now)
+        match Instant::now(clock) {
+            Ok(now) => {
+                self.calls.note(&[Call::Shows(now)]);
+                Ok(now)
+            }
+            Err(e) => {
+                self.calls.note(&[Call::Unshown]);
+                Err(e)
+            }
+        }
     }
 
-    /// Makes every later read fail that waits longer than this, and notes that. Fails if the bound can't be set.
+    /// Makes every later read fail that waits longer than this, and notes that, or that the bound can't be set. Fails if
+    /// it can't.
     pub(crate) fn bound(&mut self, longest: Duration) -> io::Result<()>
         ensures account { ⟦<Hearing<R> as Hear>⟧.account self.new ≡ ⟦<Hearing<R> as Hear>⟧.account self.old }
         ensures reads { ⟦<Hearing<R> as Hear>⟧.reads self.new ≡ ⟦<Hearing<R> as Hear>⟧.reads self.old }
         // What is noted is what the reader inside was asked.
         ensures asked { AsksFor (ask.BoundReads longest) (R.asked self.old.inner) (R.asked self.new.inner) result }
         ensures noted { MatchResult result (λ _. self.new.calls.calls ≡ call.Bounds longest ∷ self.old.calls.calls)
-            (λ _. self.new.calls ≡ self.old.calls) }
+            (λ _. self.new.calls.calls ≡ call.Unbound longest ∷ self.old.calls.calls) }
     {
-        self.inner.bound_reads(longest)?;
-        self.calls.note(&[Call::Bounds(longest)]);
-        Ok(())
+        match self.inner.bound_reads(longest) {
+            Ok(()) => {
+                self.calls.note(&[Call::Bounds(longest)]);
+                Ok(())
+            }
+            Err(e) => {
+                self.calls.note(&[Call::Unbound(longest)]);
+                Err(e)
+            }
+        }
     }
 
     /// Makes every later read fail that would wait, and notes that. Fails if the system refuses that.

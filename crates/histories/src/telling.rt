@@ -70,12 +70,14 @@ impl<W: Write> Telling<W> {
 }
 
 impl<W: Write> Telling<W> {
-    /// Notes a call that failed before it came to the writer.
+    /// Notes a call that was refused before it came to the writer, as one that failed.
     pub(crate) fn refuse(&mut self)
-        ensures same { self.new ≡ record self.old { failed = self.new.failed } }
+        ensures same { self.new ≡ record self.old { failed = self.new.failed; calls = self.new.calls } }
         ensures failed { times self.new.failed ≡ times self.old.failed + 1 }
+        ensures noted { self.new.calls.calls ≡ call.Refused ∷ self.old.calls.calls }
     {
         self.failed.one_more();
+        self.calls.note(&[Call::Refused]);
     }
 }
 
@@ -154,30 +156,44 @@ impl<W: Write> HasCalls for Telling<W> {
 }
 
 impl<W: BoundWrite> Telling<W> {
-    /// Reads the clock, and notes what it shows. Fails if it can't be read.
+    /// Reads the clock, and notes what it shows, or that it can't be read. Fails if it can't.
     pub(crate) fn look<C: Clock>(&mut self, clock: &C) -> io::Result<Instant>
         ensures same { self.new ≡ record self.old { calls = self.new.calls } }
         ensures noted { MatchResult result (λ now. self.new.calls.calls ≡ call.Shows now ∷ self.old.calls.calls)
-            (λ _. self.new.calls ≡ self.old.calls) }
+            (λ _. self.new.calls.calls ≡ call.Unshown ∷ self.old.calls.calls) }
     {
-        let now = Instant::now(clock)?;
-        self.calls.note(&[Call::Shows(now)]);
-        Ok(now)
+        match Instant::now(clock) {
+            Ok(now) => {
+                self.calls.note(&[Call::Shows(now)]);
+                Ok(now)
+            }
+            Err(e) => {
+                self.calls.note(&[Call::Unshown]);
+                Err(e)
+            }
+        }
     }
 
-    /// Makes every later write that waits longer than this fail, or return what it wrote until then, and notes that.
-    /// Fails if the bound can't be set.
+    /// Makes every later write that waits longer than this fail, or return what it wrote until then, and notes that, or
+    /// that the bound can't be set. Fails if it can't.
     pub(crate) fn bound(&mut self, longest: Duration) -> io::Result<()>
         ensures same { self.new ≡ record self.old { inner = self.new.inner; calls = self.new.calls } }
         ensures passed { W.contents self.new.inner ≡ W.contents self.old.inner }
         // What is noted is what the writer inside was asked.
         ensures asked { AsksFor (ask.BoundWrites longest) (W.asked self.old.inner) (W.asked self.new.inner) result }
         ensures noted { MatchResult result (λ _. self.new.calls.calls ≡ call.Bounds longest ∷ self.old.calls.calls)
-            (λ _. self.new.calls ≡ self.old.calls) }
+            (λ _. self.new.calls.calls ≡ call.Unbound longest ∷ self.old.calls.calls) }
     {
-        self.inner.bound_writes(longest)?;
-        self.calls.note(&[Call::Bounds(longest)]);
-        Ok(())
+        match self.inner.bound_writes(longest) {
+            Ok(()) => {
+                self.calls.note(&[Call::Bounds(longest)]);
+                Ok(())
+            }
+            Err(e) => {
+                self.calls.note(&[Call::Unbound(longest)]);
+                Err(e)
+            }
+        }
     }
 
     /// Makes every later write fail, and the other side read an end, and notes that it was asked to. Fails if the system

@@ -137,11 +137,12 @@ pub struct After<P> {
 
 /// A connected peer.
 pub trait Peer {
-    ghost use Rattle.std.specs.Prelude.{ℕ, List, [], Option, ◌≡◌, IfOk, IfErr};
+    ghost use Rattle.std.specs.Prelude.{ℕ, List, [], ◌∷◌, Option, ◌≡◌, IfOk, IfErr};
     ghost use Rattle.histories.specs.Account.{Account};
     ghost use Rattle.histories.specs.Calls.{Reads, Writes};
     ghost use Rattle.histories.specs.Timing.{KeepsTime};
     ghost use Rattle.histories.specs.declared.call.Call.{Call};
+    ghost use Rattle.histories.specs.declared.call.Call.TheVariants as call;
     ghost use Rattle.engine.specs.Causes.{AsksWhileUnfinished, IsCaused};
     ghost use Rattle.engine.specs.First.{ServesHeard};
     ghost use Rattle.socket.specs.Pace.{time_for_message, time_for_rest};
@@ -192,9 +193,9 @@ pub trait Peer {
     where
         Self: Sized,
         ensures written { written result ≡ written self }
-        // So it is of what is still read, and nothing more is written.
+        // So it is of what is still read. Nothing more is written, and the writing side is shut.
         ensures reads_in_time { KeepsTime time_for_rest (read_calls self) (read_calls result) }
-        ensures writes_none { write_calls result ≡ write_calls self };
+        ensures shuts { write_calls result ≡ call.Shuts ∷ write_calls self };
 }
 
 impl<R: BoundRead + Drop, W: BoundWrite + Drop> Peer for Connection<R, W> {

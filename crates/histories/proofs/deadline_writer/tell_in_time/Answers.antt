@@ -1,5 +1,9 @@
-use Rattle.histories.proofs.TimingLemmas.{moves, fails}
+use Rattle.histories.proofs.TimingLemmas.{moves, fails, refuses}
 use Rattle.histories.proofs.deadline_writer.tell_in_time.Goals as goal
+
+pub returns-in-Err-clause-since : goal.returns-in-Err-clause-since
+returns-in-Err-clause-since g c = λ start since.
+    refuses _ _ _ _ _ c.refuse.ensures.noted (c.in-Err.ensures.late start since)
 
 pub returns-in_err-n-clause-since : goal.returns-in_err-n-clause-since
 returns-in_err-n-clause-since g c = λ start since.

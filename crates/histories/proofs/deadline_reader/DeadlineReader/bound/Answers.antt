@@ -1,5 +1,25 @@
-use Rattle.histories.proofs.TimingLemmas.{late, ready, after, ready_at_once}
+use Rattle.histories.proofs.TimingLemmas.{if_failed, blind, late, late_since, over, ready, unready, after, ready_at_once}
 use Rattle.histories.proofs.deadline_reader.DeadlineReader.bound.Goals as goal
+
+pub invariant_of-self : goal.invariant_of-self
+invariant_of-self g c = record {
+  since = late_since _ _ _ _ (blind _ _ _ _ _ c.in_err-now.ensures.noted c.args.self.now.since);
+}
+
+pub returns-in_err-now-clause-late : goal.returns-in_err-now-clause-late
+returns-in_err-now-clause-late g c = if_failed _ (blind _ _ _ _ _ c.in_err-now.ensures.noted c.args.self.now.since)
+
+pub returns-in_err-left-clause-late : goal.returns-in_err-left-clause-late
+returns-in_err-left-clause-late g c =
+    if_failed _ (over _ _ _ _ _ _ _ c.left.ensures.begins c.left.ensures.moved c.in_ok-now.ensures.noted _
+    c.in_err-left.ensures.over c.args.self.now.since)
+
+pub returns-then-self-clause-late : goal.returns-then-self-clause-late
+returns-then-self-clause-late g c =
+    unready _ _ _ _ _ _ _ c.left.ensures.begins c.left.ensures.moved c.in_ok-now.ensures.noted c.in_ok-left.left
+    c.in_ok-left.ensures.some c.in_ok-left.ensures.within _ _ c.bound.result
+    c.bound.ensures.noted
+    c.args.self.now.since
 
 pub invariant_of-self-in-Break-branch-2 : goal.invariant_of-self-in-Break-branch-2
 invariant_of-self-in-Break-branch-2 g c = record {

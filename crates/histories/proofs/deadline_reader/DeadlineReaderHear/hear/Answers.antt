@@ -1,5 +1,10 @@
-use Rattle.histories.proofs.TimingLemmas.{moves, fails}
+use Rattle.histories.proofs.TimingLemmas.{moves, fails, refuses}
 use Rattle.histories.proofs.deadline_reader.DeadlineReaderHear.hear.Goals as goal
+
+pub invariant_of-self : goal.invariant_of-self
+invariant_of-self g c = record {
+  since = refuses _ _ _ _ _ c.refuse.ensures.noted c.in-Err.ensures.late;
+}
 
 pub invariant_of-self-in-Break-1 : goal.invariant_of-self-in-Break-1
 invariant_of-self-in-Break-1 g c = record {

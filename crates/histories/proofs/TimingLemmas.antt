@@ -7,7 +7,8 @@ use Rattle.std.specs.Time.{instant_nanos}
 use Rattle.std.specs.declared.time.Duration.{Duration}
 use Rattle.std.specs.declared.time.Instant.{Instant}
 use Rattle.histories.specs.declared.call.Call.{Call}
-use Rattle.histories.specs.declared.call.Call.TheVariants.{Shows, Unshown, Bounds, Unbound, Stops, Begins, Moves, Refused}
+use Rattle.histories.specs.declared.call.Call.TheVariants.{Shows, Unshown, Bounds, Unbound, Stops, Begins, Moves}
+use Rattle.histories.specs.declared.call.Call.TheVariants.{Refused}
 use Rattle.histories.specs.declared.calls.Calls.{Calls}
 use Rattle.histories.specs.Timing.{first_shown, IsStopped, IsLeft, MayBegin, KeepsTime, BeganAt, Since}
 use Rattle.histories.specs.Timing.{IsReady, IsOver, MayRefuse, IsLate}

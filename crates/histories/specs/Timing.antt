@@ -1,12 +1,12 @@
 -- How long reads and writes may wait. Lists of calls have the last call first.
-use Rattle.std.specs.Prelude.{ℕ, ◌≡◌, ◌+◌, ◌-◌, ◌^◌, ◌<◌, ◌≤◌, min, Bool, true, false, List, [], ◌∷◌, ◌++◌, Option, Some}
-use Rattle.std.specs.Prelude.{None, ⊤}
+use Rattle.std.specs.Prelude.{ℕ, ◌≡◌, ◌+◌, ◌-◌, ◌^◌, ◌<◌, ◌≤◌, min, Bool, true, false, List, [], ◌∷◌, ◌++◌, ⊤}
+use Rattle.std.specs.Prelude.{Option, Some, None}
 use Rattle.std.specs.Duration.{as_nanos}
 use Rattle.std.specs.Time.{instant_nanos}
 use Rattle.std.specs.declared.time.Instant.{Instant}
 use Rattle.histories.specs.declared.call.Call.{Call}
-use Rattle.histories.specs.declared.call.Call.TheVariants.{Shows, Unshown, Bounds, Unbound, Stops, Begins, Moves, Refused}
-use Rattle.histories.specs.declared.call.Call.TheVariants.{Shuts}
+use Rattle.histories.specs.declared.call.Call.TheVariants.{Shows, Unshown, Bounds, Unbound, Stops, Begins, Moves}
+use Rattle.histories.specs.declared.call.Call.TheVariants.{Refused, Shuts}
 
 -- the bytes that these calls moved
 abbrev pub moved_in : List Call → ℕ
@@ -51,7 +51,7 @@ IsStopped (Moves bytes ∷ before) = IsStopped before
 IsStopped (Refused ∷ before) = IsStopped before
 IsStopped (Shuts ∷ before) = IsStopped before
 
--- by one of these calls the writing side was to be shut
+-- by one of these calls the system was asked to shut the writing side
 abbrev pub IsShut : List Call → Type 0
 IsShut [] = ⊥
 IsShut (Shows now ∷ before) = IsShut before
@@ -80,7 +80,8 @@ IsOver allowed before now =
 -- was read, some time was left by it, and then the wait was bounded by just that, or waits were ruled out before.
 abbrev pub MayBegin : (ℕ → ℕ) → List Call → List Call → Type 0
 MayBegin allowed start (Bounds longest ∷ Shows now ∷ before) = IsLeft allowed before now (as_nanos longest)
-MayBegin allowed start (Shows now ∷ before) = ((left : ℕ) × IsLeft allowed before now left) × IsStopped (before ++ start)
+MayBegin allowed start (Shows now ∷ before) =
+    ((left : ℕ) × IsLeft allowed before now left) × IsStopped (before ++ start)
 MayBegin allowed start other = ⊥
 
 -- A read or a write that is refused after these calls can't begin in time: the clock could not be read, or nothing was
@@ -91,7 +92,7 @@ MayRefuse allowed (Unbound longest ∷ Shows now ∷ before) = IsLeft allowed be
 MayRefuse allowed (Shows now ∷ before) = IsOver allowed before now
 MayRefuse allowed other = ⊥
 
--- each read and each write among these calls began in time, none after the writing side was to be shut, and none was
+-- each read and each write among these calls began in time, none after a call to shut the writing side, and none was
 -- refused that could begin in time
 abbrev pub EachMayBegin : (ℕ → ℕ) → List Call → List Call → Type 0
 EachMayBegin allowed start [] = ⊤
@@ -131,8 +132,8 @@ abbrev pub BeganAt : Option Instant → List Call → Type 0
 BeganAt None since = (now : ℕ) → first_shown now since ≡ now
 BeganAt (Some first) since = (now : ℕ) → first_shown now since ≡ instant_nanos first
 
--- These calls came since the start, with the ones at it. The time began then, so many bytes were counted, and nothing was
--- shut.
+-- These calls came since the start, with the ones at it. The time began then, so many bytes were counted, and nothing
+-- was shut.
 pub record Since (allowed : ℕ → ℕ) (start : List Call) (first : Option Instant) (moved : ℕ) (waits : Bool)
     (calls : List Call) : Type 0 where
   pub since : List Call

@@ -2,7 +2,7 @@
 
 use std::time::Duration;
 
-/// Something that the system was asked about a stream, and did.
+/// Something that the system was asked about a stream, or its refusal.
 #[derive(Clone, Copy)]
 pub enum Ask {
     /// Each later read fails that waits longer than this.
@@ -13,4 +13,6 @@ pub enum Ask {
     StopWaiting,
     /// Each later write fails, and the other side reads an end.
     Shut,
+    /// The system refused what it was asked before this.
+    Refused,
 }

@@ -6,7 +6,8 @@ ghost use Rattle.histories.specs.declared.ask.Ask.{Ask};
 use crate::ask::Ask;
 use std::marker::{Model, PhantomData};
 
-/// What the system was asked and did, the last of it first. It takes no memory, and its methods do nothing at run time.
+/// What the system was asked and what it refused, the last first. It takes no memory, and its methods do nothing at run
+/// time.
 #[derive(Drop)]
 pub struct Asks {
     marker: PhantomData<u8>,
@@ -27,7 +28,7 @@ impl Asks {
         }
     }
 
-    /// Notes that the system was asked this and did it, the last of it first.
+    /// Notes that the system was asked this, or refused it, the last first.
     pub fn note(&mut self, _asks: &[Ask])
         ensures { self.new.asks ≡ _asks.now ++ self.old.asks }
     {}

@@ -21,6 +21,6 @@ pub enum Call {
     Moves(usize),
     /// A read or a write was refused before it began.
     Refused,
-    /// The writing side was to be shut. Where the system refused that, it may be shut all the same.
+    /// The system was asked to shut the writing side, and did so or refused.
     Shuts,
 }

@@ -166,8 +166,8 @@ impl<R: BoundRead> Hearing<R> {
         }
     }
 
-    /// Makes every later read fail that waits longer than this, and notes that, or that the bound can't be set. Fails if
-    /// it can't.
+    /// Makes every later read fail that waits longer than this, and notes that, or that the bound can't be set. Fails
+    /// if it can't.
     pub(crate) fn bound(&mut self, longest: Duration) -> io::Result<()>
         ensures account { ⟦<Hearing<R> as Hear>⟧.account self.new ≡ ⟦<Hearing<R> as Hear>⟧.account self.old }
         ensures reads { ⟦<Hearing<R> as Hear>⟧.reads self.new ≡ ⟦<Hearing<R> as Hear>⟧.reads self.old }

@@ -1,9 +1,11 @@
 //! Handles of sockets, whose waits the system bounds.
 ghost use Rattle.std.specs.Prelude.{◌≡◌, []};
+ghost use Rattle.histories.specs.Asked.{AsksFor};
 
 mod tcp;
 mod unix;
 
+use crate::ask::Ask;
 use crate::asks::Asks;
 use std::io::{self, Read, Write};
 
@@ -24,6 +26,19 @@ impl<S> Socket<S> {
             stream,
             asked: Asks::new(),
         }
+    }
+
+    /// Notes what the system was asked, and what came of it, and returns that.
+    fn note(&mut self, ask: Ask, done: io::Result<()>) -> io::Result<()>
+        ensures result { result ≡ done }
+        ensures stream { self.new.stream ≡ self.old.stream }
+        ensures asked { AsksFor ask self.old.asked.asks self.new.asked.asks result }
+    {
+        self.asked.note(&[ask]);
+        if done.is_err() {
+            self.asked.note(&[Ask::Refused]);
+        }
+        done
     }
 }
 

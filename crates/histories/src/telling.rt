@@ -196,8 +196,8 @@ impl<W: BoundWrite> Telling<W> {
         }
     }
 
-    /// Makes every later write fail, and the other side read an end, and notes that it was asked to. Fails if the system
-    /// refuses that.
+    /// Makes every later write fail, and the other side read an end, and notes that it was asked to. Fails if the
+    /// system refuses that.
     pub fn shut(&mut self) -> io::Result<()>
         ensures same { self.new ≡ record self.old { inner = self.new.inner; calls = self.new.calls } }
         ensures passed { W.contents self.new.inner ≡ W.contents self.old.inner }

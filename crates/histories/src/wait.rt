@@ -10,7 +10,7 @@ pub trait BoundRead: Read {
     ghost use Rattle.histories.specs.declared.ask.Ask.{Ask};
     ghost use Rattle.histories.specs.declared.ask.Ask.TheVariants as ask;
 
-    /// What the system was asked about it so far and did, the last of it first.
+    /// What the system was asked about it so far and what it refused, the last first.
     ghost asked: { Self → List Ask };
 
     /// Makes every later read fail that waits longer than this. Fails if the bound can't be set.
@@ -31,7 +31,7 @@ pub trait BoundWrite: Write {
     ghost use Rattle.histories.specs.declared.ask.Ask.{Ask};
     ghost use Rattle.histories.specs.declared.ask.Ask.TheVariants as ask;
 
-    /// What the system was asked about it so far and did, the last of it first.
+    /// What the system was asked about it so far and what it refused, the last first.
     ghost asked: { Self → List Ask };
 
     /// Makes every later write that waits longer than this fail, or return what it wrote until then. Fails if the bound

@@ -11,15 +11,13 @@ impl BoundRead for Socket<TcpStream> {
     ghost asked = { λ s. s.asked.asks };
 
     fn bound_reads(&mut self, longest: Duration) -> io::Result<()> {
-        self.stream.set_read_timeout(Some(longest))?;
-        self.asked.note(&[Ask::BoundReads(longest)]);
-        Ok(())
+        let done = self.stream.set_read_timeout(Some(longest));
+        self.note(Ask::BoundReads(longest), done)
     }
 
     fn stop_waiting(&mut self) -> io::Result<()> {
-        self.stream.set_nonblocking(true)?;
-        self.asked.note(&[Ask::StopWaiting]);
-        Ok(())
+        let done = self.stream.set_nonblocking(true);
+        self.note(Ask::StopWaiting, done)
     }
 }
 
@@ -27,14 +25,12 @@ impl BoundWrite for Socket<TcpStream> {
     ghost asked = { λ s. s.asked.asks };
 
     fn bound_writes(&mut self, longest: Duration) -> io::Result<()> {
-        self.stream.set_write_timeout(Some(longest))?;
-        self.asked.note(&[Ask::BoundWrites(longest)]);
-        Ok(())
+        let done = self.stream.set_write_timeout(Some(longest));
+        self.note(Ask::BoundWrites(longest), done)
     }
 
     fn shut(&mut self) -> io::Result<()> {
-        self.stream.shutdown(Shutdown::Write)?;
-        self.asked.note(&[Ask::Shut]);
-        Ok(())
+        let done = self.stream.shutdown(Shutdown::Write);
+        self.note(Ask::Shut, done)
     }
 }

@@ -1,4 +1,5 @@
-use Rattle.histories.proofs.TimingLemmas.{if_failed, blind, late, late_since, over, ready, unready, after, ready_at_once}
+use Rattle.histories.proofs.TimingLemmas.{if_failed, blind, late, late_since, over, ready, unready, after}
+use Rattle.histories.proofs.TimingLemmas.{ready_at_once}
 use Rattle.histories.proofs.deadline_reader.DeadlineReader.bound.Goals as goal
 
 pub invariant_of-self : goal.invariant_of-self

@@ -1,12 +1,13 @@
 -- What one run of the program does.
-use Rattle.std.specs.Prelude.{ℕ, List, ◌≡◌, ◌⊎◌, ◌++◌, codes, Bool, Option, Result, Err}
+use Rattle.std.specs.Prelude.{ℕ, List, ◌≡◌, ◌⊎◌, ◌++◌, codes, Bool, true, false, Option, Result, Err}
 use Rattle.histories.specs.Account.{Account}
+use Rattle.histories.specs.Calls.{Writes}
 use Rattle.clap.specs.declared.error.kind.ErrorKind.{ErrorKind}
 use Rattle.clap.specs.declared.error.kind.ErrorKind.TheVariants.{DisplayHelp, DisplayVersion, OutOfMemory}
 use Rattle.commands.specs.declared.refusal.CommandRefusal.{CommandRefusal}
 use Rattle.commands.specs.declared.refusal.CommandRefusal.TheVariants.{Io, Memory, NotEmpty}
 use Rattle.commands.specs.Exit.{exit_of, status_of, IsSilent, Says}
-use Rattle.commands.specs.ImportLine.{PrintsFront}
+use Rattle.commands.specs.Printed.{PrintsUnlessFailed}
 use Rattle.commands.specs.declared.action.Action.TheVariants.{AddNew, Import, Publish, Register}
 use Rattle.commands.specs.declared.action.Action.TheVariants.{RevokeByFingerprint, Serve}
 use Rattle.commands.specs.declared.exit.Exit.{Exit}
@@ -35,57 +36,87 @@ SparesOutput other written written_new = written_new ≡ written
 abbrev pub Ran : Type 0 → Type 1
 Ran P = P → P → Account → Account → Option (List ℕ) → Option (List ℕ) → Result Bool CommandRefusal → Command → Type 0
 
--- the line that says that the store to serve is new
-abbrev pub new_store_line : List ℕ
-new_store_line = codes "new store: the file of --db is missing or empty; without a key, each request gets a 404\n"
+-- what a runner says when it is asked: whether the store of this name is new, whether a log stands alone at this name,
+-- and whether a person may see the errors
+pub record Sayings (P : Type 0) : Type 1 where
+  pub new : P → List ℕ → Bool → Type 0
+  pub lone_log : P → List ℕ → Bool → Type 0
+  pub watched : P → Bool → Type 0
 
--- the line that says that the store to write to is new
-abbrev pub new_file_line : List ℕ
-new_file_line = codes "new store: the file of --db is missing or empty\n"
+-- what the lines about a new store begin with
+abbrev pub new_store : List ℕ
+new_store = codes "new store: the file of --db is missing or empty"
+
+-- what the line for a store that is served goes on with, and that for a store that is written to
+abbrev pub without_key : List ℕ
+without_key = codes "; without a key, each request gets a 404\n"
+
+abbrev pub line_end : List ℕ
+line_end = codes "\n"
 
 -- the line that says that a log stands where no store is, at the name of a new one
 abbrev pub lone_log_line : List ℕ → List ℕ
 lone_log_line to = to ++ codes "-wal is a log without its store: move it away, or name another file\n"
 
--- nothing was written to the errors, or this line, or a beginning of it if a write failed
-abbrev pub MayPrint : Option (List ℕ) → Option (List ℕ) → List ℕ → Type 0
-MayPrint errors errors_new line = (errors_new ≡ errors) ⊎ PrintsFront errors errors_new line
+-- A line was written to the errors if this is so, and otherwise nothing.
+abbrev pub TellsIf : Bool → Option (List ℕ) × Writes → Option (List ℕ) × Writes → List ℕ → Type 0
+TellsIf true errors errors_new line = PrintsUnlessFailed errors errors_new line
+TellsIf false errors errors_new line = errors_new ≡ errors
 
--- Before a command, nothing was written to the errors, but perhaps the line that its store is new: if it serves the
--- store, or if it carries out a registry command, publishes or imports.
-abbrev pub MayWarn : Option (List ℕ) → Option (List ℕ) → Command → Type 0
-MayWarn errors errors_new (OnStore db (Serve entrance connections control)) = MayPrint errors errors_new new_store_line
-MayWarn errors errors_new (OnStore db (Register command)) = MayPrint errors errors_new new_file_line
-MayWarn errors errors_new (OnStore db (AddNew shelf right)) = MayPrint errors errors_new new_file_line
-MayWarn errors errors_new (OnStore db (RevokeByFingerprint fingerprint)) = MayPrint errors errors_new new_file_line
-MayWarn errors errors_new (OnStore db (Publish words files)) = MayPrint errors errors_new new_file_line
-MayWarn errors errors_new (OnStore db (Import key list)) = MayPrint errors errors_new new_file_line
-MayWarn errors errors_new other = errors_new ≡ errors
+-- What is written to the errors beside the line of a refusal: by what the runner says, which is as it is here.
+module _ {P : Type 0} (says : Sayings P) (runner : P) (errors errors_new : Option (List ℕ) × Writes) where
+  -- the line was written if the store is new
+  abbrev pub TellsNew : List ℕ → List ℕ → Type 0
+  TellsNew db line = (is_new : Bool) × says.new runner db is_new × TellsIf is_new errors errors_new line
 
--- Behind a command, nothing was written to the errors, but perhaps the line that a log stands at the name of its new
--- store: if that is why it was refused.
-abbrev pub MayExplain : Option (List ℕ) → Option (List ℕ) → Command → Result Bool CommandRefusal → Type 0
-MayExplain errors errors_new (Extract db teams to) (Err NotEmpty) = MayPrint errors errors_new (lone_log_line to.now)
-MayExplain errors errors_new (Migrate from to) (Err NotEmpty) = MayPrint errors errors_new (lone_log_line to.now)
-MayExplain errors errors_new (Send control (Copy to)) (Err NotEmpty) = MayPrint errors errors_new (lone_log_line to.now)
-MayExplain errors errors_new command told = errors_new ≡ errors
+  -- the line was written if a log stands alone at this name
+  abbrev pub TellsLoneLog : List ℕ → Type 0
+  TellsLoneLog to =
+      (is_there : Bool) × says.lone_log runner to is_there × TellsIf is_there errors errors_new (lone_log_line to)
+
+  -- if a person sees the errors, the line was written if the store is new
+  abbrev pub TellsNewIf : Bool → List ℕ → Type 0
+  TellsNewIf true db = TellsNew db (new_store ++ line_end)
+  TellsNewIf false db = errors_new ≡ errors
+
+  abbrev pub TellsNewFile : List ℕ → Type 0
+  TellsNewFile db = (is_watched : Bool) × says.watched runner is_watched × TellsNewIf is_watched db
+
+  -- Before a command that serves a store or writes to it, the line that its store is new was written where it is to be.
+  -- Otherwise nothing was.
+  abbrev pub Warns : Command → Type 0
+  Warns (OnStore db (Serve entrance connections control)) = TellsNew db.now (new_store ++ without_key)
+  Warns (OnStore db (Register command)) = TellsNewFile db.now
+  Warns (OnStore db (AddNew shelf right)) = TellsNewFile db.now
+  Warns (OnStore db (RevokeByFingerprint fingerprint)) = TellsNewFile db.now
+  Warns (OnStore db (Publish words files)) = TellsNewFile db.now
+  Warns (OnStore db (Import key list)) = TellsNewFile db.now
+  Warns other = errors_new ≡ errors
+
+  -- After a command that was refused because its new store is not empty, the line was written if a log stands alone at
+  -- its name; for a copy, whose path another process reads, perhaps. Otherwise nothing was written.
+  abbrev pub Explains : Command → Result Bool CommandRefusal → Type 0
+  Explains (Extract db teams to) (Err NotEmpty) = TellsLoneLog to.now
+  Explains (Migrate from to) (Err NotEmpty) = TellsLoneLog to.now
+  Explains (Send control (Copy to)) (Err NotEmpty) = (errors_new ≡ errors) ⊎ TellsLoneLog to.now
+  Explains command told = errors_new ≡ errors
 
 -- `words` are the words after the name of the program
-module _ {P : Type 0} (ran : Ran P) (words : List (List ℕ)) (old new : P) (came came_new : Account)
+module _ {P : Type 0} (ran : Ran P) (says : Sayings P) (words : List (List ℕ)) (old new : P) (came came_new : Account)
     (written written_new : Option (List ℕ)) where
   -- the command that the words ask for was run, once, and the run ends by its result
-  pub record RunsCommand (errors errors_new : Option (List ℕ)) (ended : Exit) : Type 0 where
+  pub record RunsCommand (errors errors_new : Option (List ℕ) × Writes) (ended : Exit) : Type 0 where
     pub command : Command
     pub asks : Asks words command
     pub told : Result Bool CommandRefusal
-    pub errors_warned : Option (List ℕ)
-    pub warns : MayWarn errors errors_warned command
-    pub explains : MayExplain errors_warned errors_new command told
+    pub errors_warned : Option (List ℕ) × Writes
+    pub warns : Warns says old errors errors_warned command
+    pub explains : Explains says new errors_warned errors_new command told
     pub runs : ran old new came came_new written written_new told command
     pub ends : ended ≡ exit_of told
 
   -- no command was run, because the words ask for none or memory ran out; a text was shown, and nothing was read
-  pub record ShowsText (errors errors_new : Option (List ℕ)) (ended : Exit) : Type 0 where
+  pub record ShowsText (errors errors_new : Option (List ℕ) × Writes) (ended : Exit) : Type 0 where
     pub kind : ErrorKind
     pub why : IsShownFor words kind
     pub ends : EndsShown kind ended
@@ -95,22 +126,22 @@ module _ {P : Type 0} (ran : Ran P) (words : List (List ℕ)) (old new : P) (cam
     pub silent : IsSilent errors errors_new ended
 
   -- a command was run, or the parser's text was shown
-  abbrev pub RunsOrShows : Option (List ℕ) → Option (List ℕ) → Exit → Type 0
+  abbrev pub RunsOrShows : Option (List ℕ) × Writes → Option (List ℕ) × Writes → Exit → Type 0
   RunsOrShows errors errors_new ended = RunsCommand errors errors_new ended ⊎ ShowsText errors errors_new ended
 
   -- The program ran, and its exit status and the line on the errors say how the run ended.
-  pub record Exits (errors errors_new : Option (List ℕ)) (status : ℕ) : Type 0 where
+  pub record Exits (errors errors_new : Option (List ℕ) × Writes) (status : ℕ) : Type 0 where
     pub ended : Exit
-    pub errors_run : Option (List ℕ)
+    pub errors_run : Option (List ℕ) × Writes
     pub runs : RunsOrShows errors errors_run ended
     pub says : Says errors_run errors_new ended
     pub tells : status ≡ status_of ended
 
 -- The words could not be read, and the run ends by the reason: memory ran out, or a word is not UTF-8.
-pub record RefusesWords (errors errors_new : Option (List ℕ)) (status : ℕ) : Type 0 where
+pub record RefusesWords (errors errors_new : Option (List ℕ) × Writes) (status : ℕ) : Type 0 where
   pub ended : Exit
   pub why : (ended ≡ Refused Memory) ⊎ (ended ≡ BadUsage)
-  pub errors_run : Option (List ℕ)
+  pub errors_run : Option (List ℕ) × Writes
   pub silent : IsSilent errors errors_run ended
   pub says : Says errors_run errors_new ended
   pub tells : status ≡ status_of ended

@@ -1,11 +1,11 @@
 //! One whole run of the program.
-ghost use Rattle.std.specs.Prelude.{◌≡◌};
+ghost use Rattle.std.specs.Prelude.{◌≡◌, ◌++◌};
 ghost use Rattle.clap.specs.Values.{kind_of};
 ghost use Rattle.commands.specs.Exit.{IsSilent, Says, status_of};
-ghost use Rattle.commands.specs.ImportLine.{PrintsFront};
 ghost use Rattle.args.specs.Table.{texts};
-ghost use Rattle.cli.specs.Run.{EndsShown, Exits, MayExplain, MayPrint, MayWarn, RefusesWords, SparesOutput};
-ghost use Rattle.cli.specs.Run.{lone_log_line, new_file_line, new_store_line};
+ghost use Rattle.socket.specs.Connections.{both};
+ghost use Rattle.cli.specs.Run.{EndsShown, Exits, Explains, RefusesWords, SparesOutput, TellsLoneLog, TellsNew, Warns};
+ghost use Rattle.cli.specs.Run.{new_store};
 
 use crate::asked::command_of;
 use crate::system::{Runner, SystemStores};
@@ -13,9 +13,8 @@ use crate::version::VERSION;
 use args::{matches_of, no_form};
 use clap::error::ErrorKind;
 use commands::action::Action;
-use commands::exit::Exit;
+use commands::exit::{Exit, write_warning};
 use commands::refusal::CommandRefusal;
-use engine::write::{write_both, write_bytes};
 use histories::{Hear, Tell};
 use orders::Order;
 use runner::Command;
@@ -40,11 +39,12 @@ pub fn command<'a, I: Hear, O: Tell, E: Tell>(
     output: &mut O,
     errors: &mut E,
 ) -> u8
-    ensures { Exits ⟦<SystemStores<'a> as Runner>⟧.ran (texts words.now) stores.old stores.new
-        (I.account input.old) (I.account input.new) (O.contents output.old) (O.contents output.new)
-        (E.contents errors.old) (E.contents errors.new) result }
+    ensures { Exits ⟦<SystemStores<'a> as Runner>⟧.ran ⟦<SystemStores<'a> as Runner>⟧.says (texts words.now)
+        stores.old stores.new (I.account input.old) (I.account input.new)
+        (O.contents output.old) (O.contents output.new)
+        (both E.contents E.writes errors.old) (both E.contents E.writes errors.new) result }
 {
-    command_by(stores.rt.alloc(), stores, words, input, output, errors)
+    command_by(stores.alloc(), stores, words, input, output, errors)
 }
 
 /// Runs the program with anything that runs commands, and returns the exit status. It runs one command, or none
@@ -57,9 +57,9 @@ pub fn command_by<P: Runner, I: Hear, O: Tell, E: Tell>(
     output: &mut O,
     errors: &mut E,
 ) -> u8
-    ensures { Exits P.ran (texts words.now) runner.old runner.new
+    ensures { Exits P.ran P.says (texts words.now) runner.old runner.new
         (I.account input.old) (I.account input.new) (O.contents output.old) (O.contents output.new)
-        (E.contents errors.old) (E.contents errors.new) result }
+        (both E.contents E.writes errors.old) (both E.contents E.writes errors.new) result }
 {
     let matches = match matches_of(alloc, VERSION, words) {
         Ok(matches) => matches,
@@ -68,7 +68,7 @@ pub fn command_by<P: Runner, I: Hear, O: Tell, E: Tell>(
     let Some(command) = command_of(&matches) else {
         return end(show(no_form(alloc, &matches), output, errors), errors);
     };
-    tell_new_store(runner, &command, errors);
+    warn(runner, &command, errors);
     let told = runner.run(&command, input, output);
     explain(runner, &command, told, errors);
     end(Exit::of_command(told), errors)
@@ -76,7 +76,7 @@ pub fn command_by<P: Runner, I: Hear, O: Tell, E: Tell>(
 
 /// Writes the line that says why a run was refused, if it was, and returns the exit status.
 fn end<E: Tell>(ended: Exit, errors: &mut E) -> u8
-    ensures says { Says (E.contents errors.old) (E.contents errors.new) ended }
+    ensures says { Says (both E.contents E.writes errors.old) (both E.contents E.writes errors.new) ended }
     ensures status { result ≡ status_of ended }
 {
     ended.tell(errors);
@@ -85,41 +85,49 @@ fn end<E: Tell>(ended: Exit, errors: &mut E) -> u8
 
 /// Writes a line on `errors` if the store of the command is new, as one with a mistyped name is: always if it is
 /// served, because it answers 404 to everybody, and otherwise if the command writes to it and somebody sees `errors`.
-fn tell_new_store<P: Runner, E: Tell>(runner: &P, command: &Command, errors: &mut E)
-    ensures { MayWarn (E.contents errors.old) (E.contents errors.new) command.now }
+fn warn<P: Runner, E: Tell>(runner: &P, command: &Command, errors: &mut E)
+    ensures { Warns P.says runner.now (both E.contents E.writes errors.old) (both E.contents E.writes errors.new)
+        command.now }
 {
     match command {
         Command::OnStore {
             db,
             action: Action::Serve { .. },
-        } if runner.is_new(db) => write_new_store(errors),
+        } => tell_new(
+            runner,
+            db,
+            b"; without a key, each request gets a 404\n",
+            errors,
+        ),
         Command::OnStore {
             db,
-            action: Action::Register { .. }
-            | Action::AddNew { .. }
-            | Action::RevokeByFingerprint { .. }
-            | Action::Publish { .. }
-            | Action::Import { .. },
-        } if runner.is_watched() && runner.is_new(db) => write_new_file(errors),
+            action:
+                Action::Register { .. }
+                | Action::AddNew { .. }
+                | Action::RevokeByFingerprint { .. }
+                | Action::Publish { .. }
+                | Action::Import { .. },
+        } => {
+            if runner.is_watched() {
+                tell_new(runner, db, b"\n", errors);
+            }
+        }
         _ => {}
     }
 }
 
-/// Writes the line for a store that is served, or a beginning of it if a write fails.
-fn write_new_store<E: Tell>(errors: &mut E)
-    ensures { PrintsFront (E.contents errors.old) (E.contents errors.new) new_store_line }
+/// Writes a line on `errors` if a store is new, and what follows in it. If a write fails, a beginning is written.
+fn tell_new<P: Runner, E: Tell>(runner: &P, db: &str, rest: &[u8], errors: &mut E)
+    ensures { TellsNew P.says runner.now (both E.contents E.writes errors.old) (both E.contents E.writes errors.new)
+        db.now (new_store ++ rest.now) }
 {
-    let _ = write_bytes(
-        errors,
-        b"new store: the file of --db is missing or empty; without a key, each request gets a 404\n",
-    );
-}
-
-/// Writes the line for a store that a command writes to, or a beginning of it if a write fails.
-fn write_new_file<E: Tell>(errors: &mut E)
-    ensures { PrintsFront (E.contents errors.old) (E.contents errors.new) new_file_line }
-{
-    let _ = write_bytes(errors, b"new store: the file of --db is missing or empty\n");
+    if runner.is_new(db) {
+        write_warning(
+            b"new store: the file of --db is missing or empty",
+            rest,
+            errors,
+        );
+    }
 }
 
 /// Writes a line on `errors` if a command was refused because a log stands alone at the name of its new store.
@@ -129,7 +137,8 @@ fn explain<P: Runner, E: Tell>(
     told: Result<bool, CommandRefusal>,
     errors: &mut E,
 )
-    ensures { MayExplain (E.contents errors.old) (E.contents errors.new) command.now told }
+    ensures { Explains P.says runner.now (both E.contents E.writes errors.old) (both E.contents E.writes errors.new)
+        command.now told }
 {
     if told != Err(CommandRefusal::NotEmpty) {
         return;
@@ -147,15 +156,16 @@ fn explain<P: Runner, E: Tell>(
     }
 }
 
-/// Writes a line on `errors` if a log stands alone at the name of a store, or a beginning of it if a write fails.
+/// Writes a line on `errors` if a log stands alone at the name of a store. If a write fails, a beginning is written.
 fn tell_lone_log<P: Runner, E: Tell>(runner: &P, to: &str, errors: &mut E)
-    ensures { MayPrint (E.contents errors.old) (E.contents errors.new) (lone_log_line to.now) }
+    ensures { TellsLoneLog P.says runner.now (both E.contents E.writes errors.old)
+        (both E.contents E.writes errors.new) to.now }
 {
     if runner.has_lone_log(to) {
-        let _ = write_both(
-            errors,
+        write_warning(
             to.as_bytes(),
             b"-wal is a log without its store: move it away, or name another file\n",
+            errors,
         );
     }
 }
@@ -165,7 +175,7 @@ fn tell_lone_log<P: Runner, E: Tell>(runner: &P, to: &str, errors: &mut E)
 fn show<O: Tell, E: Tell>(error: clap::Error, output: &mut O, errors: &mut E) -> Exit
     ensures ends { EndsShown (kind_of error) result }
     ensures output { SparesOutput (kind_of error) (O.contents output.old) (O.contents output.new) }
-    ensures silent { IsSilent (E.contents errors.old) (E.contents errors.new) result }
+    ensures silent { IsSilent (both E.contents E.writes errors.old) (both E.contents E.writes errors.new) result }
 {
     match error.kind() {
         ErrorKind::OutOfMemory => Exit::Refused(CommandRefusal::Memory),
@@ -183,7 +193,7 @@ fn show<O: Tell, E: Tell>(error: clap::Error, output: &mut O, errors: &mut E) ->
 /// Reports that the words could not be read, and returns the exit status. Words that are not UTF-8 are bad usage; if
 /// memory ran out, the run ends with `goshelf: memory`.
 pub fn words_refused<E: Tell>(error: io::Error, errors: &mut E) -> u8
-    ensures { RefusesWords (E.contents errors.old) (E.contents errors.new) result }
+    ensures { RefusesWords (both E.contents E.writes errors.old) (both E.contents E.writes errors.new) result }
 {
     let ended = match error.kind() {
         io::ErrorKind::OutOfMemory => Exit::Refused(CommandRefusal::Memory),

@@ -14,6 +14,7 @@ use runner::host::{Host, SystemHost, SystemOutside};
 use runner::system::{SystemOlderFiles, SystemStoreFiles};
 use runner::{Command, run};
 use socket::{Callers, SystemEntrances, SystemOperator, SystemPeer};
+use std::alloc::Global;
 use std::io::{IsTerminal, Write};
 use std::os::unix::net::UnixStream;
 use std::rt::HostRuntime;
@@ -22,20 +23,26 @@ use store_files::files::StoreFiles;
 
 /// Runs commands. A run of the program reaches the files of stores only by it.
 pub trait Runner {
-    ghost use Rattle.cli.specs.Run.{Ran};
+    ghost use Rattle.cli.specs.Run.{Ran, Sayings};
 
     /// What running a command does.
     ghost ran: { Ran Self };
 
+    /// What it says when it is asked.
+    ghost says: { Sayings Self };
+
     /// Whether a command begins with a new store, because the file is missing or empty and no log is left beside it.
-    fn is_new(&self, db: &str) -> bool;
+    fn is_new(&self, db: &str) -> bool
+        ensures { says.new self.now db.now result };
 
     /// Whether there is no such file, or it has no bytes, and beside it stands a log that may be what is left of a
     /// store.
-    fn has_lone_log(&self, name: &str) -> bool;
+    fn has_lone_log(&self, name: &str) -> bool
+        ensures { says.lone_log self.now name.now result };
 
     /// Whether a person may see standard error, which is a terminal.
-    fn is_watched(&self) -> bool;
+    fn is_watched(&self) -> bool
+        ensures { says.watched self.now result };
 
     /// Runs a command and returns whether it was accepted. Fails as [`runner::run`] does.
     fn run<I: Hear, O: Tell>(
@@ -52,7 +59,7 @@ pub trait Runner {
 /// connections to servers, and with callers, and all that was read of other files.
 #[derive(Drop)]
 pub struct SystemStores<'a> {
-    pub rt: &'a HostRuntime,
+    rt: &'a HostRuntime,
     /// The store of a command.
     pub files: SystemStoreFiles<'a>,
     /// The new store of an `extract` or a `migrate`.
@@ -88,6 +95,11 @@ impl<'a> SystemStores<'a> {
                 files: SystemFiles::new(rt),
             },
         }
+    }
+
+    /// Returns the allocator of the system.
+    pub(crate) fn alloc(&self) -> Global {
+        self.rt.alloc()
     }
 }
 
@@ -125,6 +137,9 @@ impl<'a> Runner for SystemStores<'a> {
         (⟦<SystemServers<'a> as Servers<Hearing<UnixStream>, Telling<UnixStream>>>⟧.history old.servers)
         (⟦<SystemServers<'a> as Servers<Hearing<UnixStream>, Telling<UnixStream>>>⟧.history new.servers)
         old.outside new.outside };
+
+    /// What it says is not proved: no history has what a file is.
+    ghost says = { record { new = λ _ _ _. Unit {0}; lone_log = λ _ _ _. Unit {0}; watched = λ _ _. Unit {0} } };
 
     fn is_new(&self, db: &str) -> bool {
         is_new_store(self.rt, db)

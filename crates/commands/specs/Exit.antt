@@ -1,7 +1,8 @@
 -- How a run ends, and what it writes about that.
 use Rattle.std.specs.Prelude.{ℕ, List, ◌≡◌, ◌++◌, codes, Bool, true, false, Option, Result, Ok, Err}
 use Rattle.commands.specs.Ending.{word}
-use Rattle.commands.specs.Printed.{PrintsFront}
+use Rattle.histories.specs.Calls.{Writes}
+use Rattle.commands.specs.Printed.{PrintsUnlessFailed}
 use Rattle.commands.specs.declared.refusal.CommandRefusal.{CommandRefusal}
 use Rattle.commands.specs.declared.exit.Exit.{Exit}
 use Rattle.commands.specs.declared.exit.Exit.TheVariants.{Done, NotAccepted, Refused, BadUsage}
@@ -24,14 +25,15 @@ status_of BadUsage = 2
 abbrev pub refusal_line : CommandRefusal → List ℕ
 refusal_line why = codes "goshelf: " ++ (word why ++ codes "\n")
 
-module _ (errors errors_new : Option (List ℕ)) where
+-- what was written to the errors and the calls that wrote there, before and after
+module _ (errors errors_new : Option (List ℕ) × Writes) where
   -- nothing was written to the errors, except the parser's text about bad usage
   abbrev pub IsSilent : Exit → Type 0
   IsSilent BadUsage = Unit {0}
   IsSilent other = errors_new ≡ errors
 
-  -- If the command was refused, a beginning of the line of its word was written to the errors: all of it, unless a
-  -- write failed. Otherwise nothing was.
+  -- If the command was refused, the line of its word was written to the errors, or a beginning of it and a write failed.
+  -- Otherwise nothing was.
   abbrev pub Says : Exit → Type 0
-  Says (Refused why) = PrintsFront errors errors_new (refusal_line why)
+  Says (Refused why) = PrintsUnlessFailed errors errors_new (refusal_line why)
   Says other = errors_new ≡ errors

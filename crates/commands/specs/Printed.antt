@@ -25,6 +25,11 @@ PrintsText written written_new text result =
 abbrev pub HasFailed : Writes → Writes → Type 0
 HasFailed writes writes_new = writes.failed < writes_new.failed
 
+-- From old to new, each the bytes that were written and the calls that wrote them: the text was written, or a beginning
+-- of it, and a call to write failed.
+abbrev pub PrintsUnlessFailed : Option (List ℕ) × Writes → Option (List ℕ) × Writes → List ℕ → Type 0
+PrintsUnlessFailed old new text = Appends old.0 new.0 text ⊎ (PrintsFront old.0 new.0 text × HasFailed old.1 new.1)
+
 -- a command that ended with `Io` did so because its output failed
 abbrev pub FailsByOutput : {T : Type 0} → Writes → Writes → Result T CommandRefusal → Type 0
 FailsByOutput writes writes_new result = IfErr result (λ e. e ≡ Io → HasFailed writes writes_new)

@@ -1,7 +1,10 @@
 //! How a run ends: its exit status, and the line that says why a command was refused.
-ghost use Rattle.std.specs.Prelude.{◌≡◌};
+ghost use Rattle.std.specs.Prelude.{◌≡◌, ◌++◌};
+ghost use Rattle.engine.specs.Causes.{FailsWith};
 ghost use Rattle.engine.specs.Written.{Writes};
+ghost use Rattle.socket.specs.Connections.{both};
 ghost use Rattle.commands.specs.Exit as spec;
+ghost use Rattle.commands.specs.Printed.{PrintsUnlessFailed};
 
 use crate::refusal::CommandRefusal;
 use engine::Io;
@@ -47,7 +50,7 @@ impl Exit {
     /// Writes the line that says why the command was refused, if it was. If a write fails, a beginning of the line is
     /// written and the rest is dropped, because the exit status still says that the command failed.
     pub fn tell<E: Tell>(self, errors: &mut E)
-        ensures { spec.Says (E.contents errors.old) (E.contents errors.new) self }
+        ensures { spec.Says (both E.contents E.writes errors.old) (both E.contents E.writes errors.new) self }
     {
         if let Exit::Refused(refusal) = self {
             let _ = write_line(refusal, errors);
@@ -55,9 +58,19 @@ impl Exit {
     }
 }
 
+/// Writes one text after another to the errors. If a write fails, a beginning of both is written and the rest is
+/// dropped.
+pub fn write_warning<E: Tell>(first: &[u8], second: &[u8], errors: &mut E)
+    ensures { PrintsUnlessFailed (both E.contents E.writes errors.old) (both E.contents E.writes errors.new)
+        (first.now ++ second.now) }
+{
+    let _ = write_both(errors, first, second);
+}
+
 /// Writes the line `goshelf: <word>`. `Io::Write` if a write fails: then a beginning of it is written, and not all.
 fn write_line<E: Tell>(refusal: CommandRefusal, errors: &mut E) -> Result<(), Io>
-    ensures { Writes (E.contents errors.old) (E.contents errors.new) (spec.refusal_line refusal) result }
+    ensures bytes { Writes (E.contents errors.old) (E.contents errors.new) (spec.refusal_line refusal) result }
+    ensures fails { FailsWith (E.writes errors.old).failed (E.writes errors.new).failed result }
 {
     write_bytes(errors, b"goshelf: ")?;
     write_both(errors, refusal.word().as_bytes(), b"\n")

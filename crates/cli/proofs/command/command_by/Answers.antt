@@ -52,7 +52,7 @@ returns g c = record {
         c.matches_of.ensures.reads (found c.command_of.result c.in-Some.command _ (search rules) c.command_of.ensures);
     told = c.run-told.result;
     errors_warned = _;
-    warns = c.tell_new_store.ensures;
+    warns = c.warn.ensures;
     explains = c.explain.ensures;
     runs = c.run-told.ensures;
     ends = c.of_command.ensures;

@@ -101,12 +101,11 @@ fn warn<P: Runner, E: Tell>(runner: &P, command: &Command, errors: &mut E)
         ),
         Command::OnStore {
             db,
-            action:
-                Action::Register { .. }
-                | Action::AddNew { .. }
-                | Action::RevokeByFingerprint { .. }
-                | Action::Publish { .. }
-                | Action::Import { .. },
+            action: Action::Register { .. }
+            | Action::AddNew { .. }
+            | Action::RevokeByFingerprint { .. }
+            | Action::Publish { .. }
+            | Action::Import { .. },
         } => {
             if runner.is_watched() {
                 tell_new(runner, db, b"\n", errors);

@@ -57,7 +57,7 @@ module _ {S C N : Type 0} (acts : Deeds S N) (files : Span S C) (name : List ℕ
   pub record ActsOnNone (result : Result Bool CommandRefusal) : Type 0 where
     pub why : StoreRefusal
     pub tells : TellsAlone outside outside_new came came_new written written_new result (Err (unopened why))
-    pub done : Refuses files name
+    pub done : Refuses files name why
 
   -- the store of this file was opened for the action, which was done on it, or it was not opened
   abbrev pub ActsOnFile : Action → Result Bool CommandRefusal → Type 0

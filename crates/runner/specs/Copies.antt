@@ -22,6 +22,7 @@ use Rattle.control.specs.declared.copies.CatalogRefusal.{CatalogRefusal}
 use Rattle.control.specs.declared.copies.CatalogRefusal.TheVariants as catalog
 use Rattle.control.specs.declared.copies.CopyRefusal.{CopyRefusal}
 use Rattle.control.specs.declared.copies.CopyRefusal.TheVariants as copy
+use Rattle.runner.specs.Opened.{IsTargetRefusal}
 
 -- why no copy was made, by why the store was not opened or copied; other tables than a store's are bytes too, and
 -- `NoTeam` never comes
@@ -70,12 +71,6 @@ module _ {S F : Type 0} (shown : S → Shown) (shown_too : F → Shown) where
         (shown_too fresh).failures (shown_too fresh_new).failures (told end)
     pub ends : result ≡ copied end
 
-  -- nothing was done with the served store: the new store's file is its own, or the new store was not opened, and the
-  -- result says why
-  pub record CopiesNone (source source_new : S) (result : Result (Unit {0}) CopyRefusal) : Type 0 where
-    pub same : source_new ≡ source
-    pub tells : (result ≡ Err copy.NotEmpty) ⊎ ((why : StoreRefusal) × (result ≡ Err (copy_refusal why)))
-
   -- nothing was done, since another copy is being made
   pub record IsBusy (source source_new : S) (result : Result (Unit {0}) CopyRefusal) : Type 0 where
     pub same : source_new ≡ source
@@ -90,10 +85,13 @@ module _ {S F : Type 0} (shown : S → Shown) (shown_too : F → Shown) where
       ⊎ ((source_new ≡ source) × (printed ≡ []) × (result ≡ Err catalog.Busy))
 
   module _ {D : Type 0} (targets : Span F D) (source source_new : S) (to : List ℕ) where
-    -- nothing was done with the served store, and no other was opened
+    -- nothing was done with the served store, and the result says why: the new store's file is its own, or its name was
+    -- refused, or the new store was to be opened, and was not
     pub record CopiesUnopened (result : Result (Unit {0}) CopyRefusal) : Type 0 where
-      pub none : CopiesNone source source_new result
-      pub done : IsIdle targets ⊎ Refuses targets to
+      pub same : source_new ≡ source
+      pub tells : ((result ≡ Err copy.NotEmpty) × IsIdle targets)
+          ⊎ ((why : StoreRefusal) × (told : StoreRefusal) × IsTargetRefusal told why
+          × (result ≡ Err (copy_refusal told)) × (IsIdle targets ⊎ Refuses targets to why))
 
     -- the store of the file `to`, and no other, was opened once and made a copy, or not; or no store was opened
     abbrev pub CopiesTo : Result (Unit {0}) CopyRefusal → Type 0

@@ -36,7 +36,7 @@ module _ {S F C D : Type 0} (shown : S → Shown) (shown_too : F → Shown) (fil
   -- the first was to be opened, and was not
   pub record ExtractsNone (result : Result (Unit {0}) CommandRefusal) : Type 0 where
     pub tells : ((result ≡ Err NotEmpty) × IsIdle files)
-        ⊎ ((why : StoreRefusal) × (result ≡ Err (unopened why)) × (IsIdle files ⊎ Refuses files db))
+        ⊎ ((why : StoreRefusal) × (result ≡ Err (unopened why)) × (IsIdle files ⊎ Refuses files db why))
     pub idle : IsIdle targets
 
   -- the store of the first file was opened, and some teams' part of it was put into that of the other, or was not

@@ -69,8 +69,10 @@ module _ {C Q F D : Type 0} (state_of : C → State) (shown : F → Shown) (olde
 
   -- the copy at `path` was not opened and lost its names, and the result says why
   pub record MigratesUnopened (result : Result (Unit {0}) CommandRefusal) : Type 0 where
-    pub none : MigratesNone shown targets to result
-    pub done : older.after ≡ older.before ++ (path, Refused) ∷ (path, Unlinked) ∷ (log, Unlinked) ∷ []
+    pub why : StoreRefusal
+    pub tells : result ≡ Err (unopened why)
+    pub idle : IsIdle targets
+    pub done : older.after ≡ older.before ++ (path, Refused why) ∷ (path, Unlinked) ∷ (log, Unlinked) ∷ []
 
   abbrev pub MigratesCopy : Result (Unit {0}) CommandRefusal → Type 0
   MigratesCopy result = MigratesOpened result ⊎ MigratesUnopened result
@@ -93,10 +95,12 @@ module _ {C Q F D : Type 0} (state_of : C → State) (shown : F → Shown) (olde
     pub log : List ℕ
     pub copy : MigratesCopy state_of shown (copied path log) targets path log to result
 
-  -- the older file was to be copied, and was not, and the result says why
+  -- the older file was to be copied, and was not, and the result says why, or that it is the new store's
   pub record MigratesUncopied (result : Result (Unit {0}) CommandRefusal) : Type 0 where
-    pub none : MigratesNone shown targets to result
-    pub done : Refuses older from
+    pub why : StoreRefusal
+    pub tells : (result ≡ Err NotEmpty) ⊎ (result ≡ Err (unopened why))
+    pub idle : IsIdle targets
+    pub done : Refuses older from why
 
   -- the older file has no bytes, or a name was refused, as `MigratesEmpty` says; nothing was done to it
   pub record MigratesUnread (result : Result (Unit {0}) CommandRefusal) : Type 0 where

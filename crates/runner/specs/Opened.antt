@@ -7,6 +7,7 @@ use Rattle.world.specs.World.{World}
 use Rattle.store.specs.Shown.{BeginsAt}
 use Rattle.store.specs.Restart.{HoldsStore, RecoversStore}
 use Rattle.store_files.specs.declared.refusal.StoreRefusal.{StoreRefusal}
+use Rattle.store_files.specs.declared.refusal.StoreRefusal.TheVariants as store
 use Rattle.commands.specs.declared.refusal.CommandRefusal.{CommandRefusal}
 use Rattle.commands.specs.declared.refusal.CommandRefusal.TheVariants as refusal
 use Rattle.commands.specs.Ending.{unopened}
@@ -24,10 +25,16 @@ pub record HasBegun {S : Type 0} (shown : S → Shown) (held : Image) (store : S
   pub found : (shown store).is_honest → (w : World) → HoldsStore held w → BeginsAt (shown store) w
   pub none_failed : (shown store).failures ≡ 0
 
+-- why a new store was not opened, by why its file was refused: `NotEmpty` may stand for `Device`, where a log stands
+-- alone at its name
+abbrev pub IsTargetRefusal : StoreRefusal → StoreRefusal → Type 0
+IsTargetRefusal told why = (told ≡ why) ⊎ ((why ≡ store.Device) × (told ≡ store.NotEmpty))
+
 -- Nothing was done with the source, and the result says why: the new store's file is the source's, and was not opened,
 -- or the new store was to be opened, and was not.
 pub record LeavesSource {S F D : Type 0} (targets : Span F D) (to : List ℕ) (source source_new : S)
     (result : Result (Unit {0}) CommandRefusal) : Type 0 where
   pub same : source_new ≡ source
   pub tells : ((result ≡ Err refusal.NotEmpty) × IsIdle targets)
-      ⊎ ((why : StoreRefusal) × (result ≡ Err (new_store_refusal (unopened why))) × Refuses targets to)
+      ⊎ ((why : StoreRefusal) × (told : StoreRefusal) × IsTargetRefusal told why
+      × (result ≡ Err (new_store_refusal (unopened told))) × Refuses targets to why)

@@ -1,7 +1,7 @@
 //! Copies of the store of a file while it is served, catalogs of it, counts of its versions, its size and its reserve.
 //! That a copy opens no other file than by `StoreFiles`, the sizes and the reserve are read and tested, and not proved.
 
-ghost use Rattle.std.specs.Prelude.{◌≡◌, ◌≢◌, [], Err, IfErr, IfOk, IsErrOf};
+ghost use Rattle.std.specs.Prelude.{◌≡◌, ◌≢◌, ◌⊎◌, [], Err, IfErr, IfOk, IsErrOf};
 ghost use Rattle.control.specs.Copying.{IsOnlyRead};
 ghost use Rattle.control.specs.declared.copies.CatalogRefusal.TheVariants as catalog;
 ghost use Rattle.control.specs.declared.copies.CopyRefusal.TheVariants.{Busy};
@@ -172,6 +172,9 @@ where
         source.old source.new to.now result }
     ensures begun { IfErr result (λ why. why ≢ Busy) }
     ensures ended { IsErrOf result CopyRefusal.Ended → B.ended between.new }
+    // No store was to be opened at a name that was not tested.
+    ensures tested { (G.history targets.new ≡ G.history targets.old)
+        ⊎ (L.free checks.now db.now to.now × L.apart checks.now db.now to.now) }
 {
     if let Err(refusal) = checks.check_name(db, to) {
         return Err(copy_refusal(refusal));

@@ -1,6 +1,6 @@
 //! Extracting the part of some teams from the store of one file into that of another.
 
-ghost use Rattle.std.specs.Prelude.{map as each};
+ghost use Rattle.std.specs.Prelude.{◌≡◌, ◌⊎◌, map as each};
 ghost use Rattle.runner.specs.Extract.{ExtractsFile, ExtractsPart, Fills};
 ghost use Rattle.store.specs.Extracted.{HasCauseInEither};
 ghost use Rattle.store.specs.Parts.{ExtractsTeams};
@@ -35,10 +35,13 @@ where
     L: FileChecks,
     F: StoreFiles<OpenedStore, ClosedFile>,
     G: StoreFiles<OpenedStore, ClosedFile>,
-    ensures { ExtractsFile (λ s. ⟦<Found as Shelves>⟧.shown s.shelves) (λ s. ⟦<Found as Shelves>⟧.shown s.shelves)
+    ensures extracts { ExtractsFile (λ s. ⟦<Found as Shelves>⟧.shown s.shelves) (λ s. ⟦<Found as Shelves>⟧.shown s.shelves)
         (record { begins = F.begins; left = F.left; before = F.history files.old; after = F.history files.new })
         (record { begins = G.begins; left = G.left; before = G.history targets.old; after = G.history targets.new })
         db.now (each (λ team. team.now) teams.now) to.now result }
+    // No store was to be opened at a name that was not tested.
+    ensures tested { (G.history targets.new ≡ G.history targets.old)
+        ⊎ (L.free checks.now db.now to.now × L.apart checks.now db.now to.now) }
 {
     checks.check_name(db, to)?;
     if checks.is_empty(db) && checks.is_same(db, to) {
@@ -63,9 +66,10 @@ fn extract_to<L, G>(
 where
     L: FileChecks,
     G: StoreFiles<OpenedStore, ClosedFile>,
-    ensures { Fills (λ s. ⟦<Found as Shelves>⟧.shown s.shelves) (λ s. ⟦<Found as Shelves>⟧.shown s.shelves)
+    ensures fills { Fills (λ s. ⟦<Found as Shelves>⟧.shown s.shelves) (λ s. ⟦<Found as Shelves>⟧.shown s.shelves)
         (record { begins = G.begins; left = G.left; before = G.history targets.old; after = G.history targets.new })
         (each (λ team. team.now) teams.now) to.now source.old source.new result }
+    ensures tested { (G.history targets.new ≡ G.history targets.old) ⊎ L.apart checks.now db.now to.now }
 {
     if checks.is_same(db, to) {
         return Err(CommandRefusal::NotEmpty);

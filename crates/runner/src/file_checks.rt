@@ -1,11 +1,20 @@
 //! What a command asks of files that it opens as stores, or has open, and where it shows how far it is.
-ghost use Rattle.std.specs.Prelude.{◌≡◌, ◌⊎◌};
+ghost use Rattle.std.specs.Prelude.{◌≡◌, false, OnOk};
+ghost use Rattle.runner.specs.Opened.{IsTargetRefusal};
 
 use commands::progress::StderrLine;
 use store_files::refusal::StoreRefusal;
 
 /// What is asked of files beside their stores. No call changes what a file holds, so no history has it.
 pub trait FileChecks {
+    ghost use Rattle.std.specs.Prelude.{ℕ, List};
+
+    /// No file of the store at the first name, or of another store, has the second name.
+    ghost free: { Self → List ℕ → List ℕ → Type 0 };
+
+    /// The names lead to two files.
+    ghost apart: { Self → List ℕ → List ℕ → Type 0 };
+
     /// Whether there is a file with this name that has no bytes. Folders and devices do not count.
     fn is_empty(&self, name: &str) -> bool;
 
@@ -13,11 +22,13 @@ pub trait FileChecks {
     fn is_missing_or_empty(&self, name: &str) -> bool;
 
     /// Whether both names lead to one file. False if one of them leads to none.
-    fn is_same(&self, name: &str, other: &str) -> bool;
+    fn is_same(&self, name: &str, other: &str) -> bool
+        ensures apart { result ≡ false → apart self.now name.now other.now };
 
     /// Tests the name of a new store. Fails with `Device` if SQLite has a use for that file, by its name or by a link:
     /// for the database at `db`, or for another that stands there. Fails with `Memory` if memory runs out.
-    fn check_name(&self, db: &str, to: &str) -> Result<(), StoreRefusal>;
+    fn check_name(&self, db: &str, to: &str) -> Result<(), StoreRefusal>
+        ensures free { OnOk result (free self.now db.now to.now) };
 
     /// Whether there is no such file, or it has no bytes, and beside it stands a log that may be what is left of a
     /// store.
@@ -40,7 +51,7 @@ pub(crate) fn target_refusal<L: FileChecks>(
     to: &str,
     refusal: StoreRefusal,
 ) -> StoreRefusal
-    ensures { (result ≡ refusal) ⊎ ((refusal ≡ StoreRefusal.Device) × (result ≡ StoreRefusal.NotEmpty)) }
+    ensures { IsTargetRefusal result refusal }
 {
     if refusal == StoreRefusal::Device && checks.has_lone_log(to) {
         StoreRefusal::NotEmpty

@@ -1,5 +1,5 @@
 //! Migrating the store of a file of an older schema into the store of another file.
-
+ghost use Rattle.std.specs.Prelude.{◌≡◌, ◌≢◌, ◌⊎◌, false};
 ghost use Rattle.runner.specs.Migrate.{MigratesCopy, MigratesEmpty, MigratesFile, MigratesTo};
 ghost use Rattle.sqlite.specs.Held.{state};
 ghost use Rattle.store.specs.Migrated.{HasCauseInOne, Migrates};
@@ -103,10 +103,13 @@ where
     L: FileChecks,
     Q: OlderFiles<ClosedFile>,
     G: StoreFiles<OpenedStore, ClosedFile>,
-    ensures { MigratesFile ⟦<ClosedFile as OlderStore>⟧.state_of (λ s. ⟦<Found as Shelves>⟧.shown s.shelves)
+    ensures migrates { MigratesFile ⟦<ClosedFile as OlderStore>⟧.state_of (λ s. ⟦<Found as Shelves>⟧.shown s.shelves)
         (record { begins = Q.begins; left = Q.left; before = Q.history older.old; after = Q.history older.new })
         (record { begins = G.begins; left = G.left; before = G.history targets.old; after = G.history targets.new })
         from.now to.now result }
+    // No store was to be opened at a name that was not tested.
+    ensures tested { (G.history targets.new ≡ G.history targets.old)
+        ⊎ (L.free checks.now from.now to.now × ((from.now ≢ to.now) × L.apart checks.now from.now to.now)) }
 {
     checks.check_name(from, to)?;
     if names_no_file(from) {
@@ -137,10 +140,12 @@ where
     L: FileChecks,
     Q: OlderFiles<ClosedFile>,
     G: StoreFiles<OpenedStore, ClosedFile>,
-    ensures { MigratesCopy ⟦<ClosedFile as OlderStore>⟧.state_of (λ s. ⟦<Found as Shelves>⟧.shown s.shelves)
+    ensures migrates { MigratesCopy ⟦<ClosedFile as OlderStore>⟧.state_of (λ s. ⟦<Found as Shelves>⟧.shown s.shelves)
         (record { begins = Q.begins; left = Q.left; before = Q.history older.old; after = Q.history older.new })
         (record { begins = G.begins; left = G.left; before = G.history targets.old; after = G.history targets.new })
         copy.now.path.bytes.items copy.now.log.bytes.items to.now result }
+    ensures tested { (G.history targets.new ≡ G.history targets.old)
+        ⊎ ((from.now ≢ to.now) × L.apart checks.now from.now to.now) }
 {
     let opened = older.open(copy.path.as_str(), Use::Writing);
     older.unlink(copy.path.as_str());
@@ -152,7 +157,9 @@ where
 }
 
 /// Whether both names are equal or lead to one file.
-fn is_one_file<L: FileChecks>(checks: &L, path: &str, other: &str) -> bool {
+fn is_one_file<L: FileChecks>(checks: &L, path: &str, other: &str) -> bool
+    ensures { result ≡ false → (path.now ≢ other.now) × L.apart checks.now path.now other.now }
+{
     path == other || checks.is_same(path, other)
 }
 
@@ -168,9 +175,11 @@ fn migrate_nothing<L, G>(
 where
     L: FileChecks,
     G: StoreFiles<OpenedStore, ClosedFile>,
-    ensures { MigratesEmpty (λ s. ⟦<Found as Shelves>⟧.shown s.shelves)
+    ensures migrates { MigratesEmpty (λ s. ⟦<Found as Shelves>⟧.shown s.shelves)
         (record { begins = G.begins; left = G.left; before = G.history targets.old; after = G.history targets.new })
         to.now result }
+    ensures tested { (G.history targets.new ≡ G.history targets.old)
+        ⊎ ((from.now ≢ to.now) × L.apart checks.now from.now to.now) }
 {
     let Ok(mut none) = Connection::open_in_memory(alloc) else {
         return Err(StoreRefusal::Memory.into());
@@ -191,9 +200,11 @@ where
     L: FileChecks,
     O: OlderStore,
     G: StoreFiles<OpenedStore, ClosedFile>,
-    ensures { MigratesTo O.state_of (λ s. ⟦<Found as Shelves>⟧.shown s.shelves)
+    ensures migrates { MigratesTo O.state_of (λ s. ⟦<Found as Shelves>⟧.shown s.shelves)
         (record { begins = G.begins; left = G.left; before = G.history targets.old; after = G.history targets.new })
         to.now old.old old.new result }
+    ensures tested { (G.history targets.new ≡ G.history targets.old)
+        ⊎ ((from.now ≢ to.now) × L.apart checks.now from.now to.now) }
 {
     if is_one_file(checks, from, to) {
         return Err(CommandRefusal::NotEmpty);

@@ -14,7 +14,7 @@ pub trait OlderFiles<C>: StoreFiles<C, C> {
         ensures copied { IfOk result (λ copy. Self.history self.new ≡ Self.history self.old
             ++ (from.now, Copied) ∷ (copy.path.bytes.items, Made) ∷ (copy.log.bytes.items, Made) ∷ []) }
         ensures refused { IfErr result
-            (λ _. Self.history self.new ≡ Self.history self.old ++ (from.now, Refused) ∷ []) };
+            (λ why. Self.history self.new ≡ Self.history self.old ++ (from.now, Refused why) ∷ []) };
 
     /// Takes the name of a file away. Errors are ignored.
     fn unlink(&mut self, name: &str)

@@ -75,7 +75,7 @@ impl<'a> StoreFiles<OpenedStore, ClosedFile> for SystemStoreFiles<'a> {
                 })
             }
             Err(refusal) => {
-                self.noted.note(name.as_bytes(), &Deed::Refused);
+                self.noted.note(name.as_bytes(), &Deed::Refused(refusal));
                 Err(refusal)
             }
         }
@@ -151,7 +151,7 @@ impl<'a> StoreFiles<ClosedFile, ClosedFile> for SystemOlderFiles<'a> {
                 })
             }
             Err((refusal, _)) => {
-                self.noted.note(name.as_bytes(), &Deed::Refused);
+                self.noted.note(name.as_bytes(), &Deed::Refused(refusal));
                 Err(refusal)
             }
         }
@@ -176,7 +176,7 @@ impl<'a> OlderFiles<ClosedFile> for SystemOlderFiles<'a> {
                 Ok(copy)
             }
             Err(refusal) => {
-                self.noted.note(from.as_bytes(), &Deed::Refused);
+                self.noted.note(from.as_bytes(), &Deed::Refused(refusal));
                 Err(refusal)
             }
         }

@@ -12,8 +12,8 @@ pub enum Deed<C> {
     Looked(bool),
     /// Its store was opened for this.
     Opened(Use),
-    /// Its store was to be opened, and was not.
-    Refused,
+    /// Its store was to be opened, and was not, for this reason.
+    Refused(StoreRefusal),
     /// Its store was closed, and this was left of it.
     Closed(C),
     /// It and its log were read, and copied into files that were made for that.
@@ -64,7 +64,7 @@ pub trait StoreFiles<S, C> {
     fn open<'n>(&mut self, name: &'n str, purpose: Use) -> Result<OpenFile<'n, S>, StoreRefusal>
         ensures begun { IfOk result (λ file. begins file.store × (file.name.now ≡ name.now)) }
         ensures opened { IfOk result (λ _. history self.new ≡ history self.old ++ (name.now, Opened purpose) ∷ []) }
-        ensures refused { IfErr result (λ _. history self.new ≡ history self.old ++ (name.now, Refused) ∷ []) };
+        ensures refused { IfErr result (λ why. history self.new ≡ history self.old ++ (name.now, Refused why) ∷ []) };
 
     /// Closes the store of a file, as it is now.
     fn close<'n>(&mut self, file: OpenFile<'n, S>)

@@ -57,7 +57,8 @@ impl<'a, S: Drop> StoreFiles<S, S> for MemoryStoreFiles<'a, S> {
                 return Ok(OpenFile { store, name });
             }
         }
-        self.noted.note(name.as_bytes(), &Deed::Refused);
+        self.noted
+            .note(name.as_bytes(), &Deed::Refused(self.refusal));
         Err(self.refusal)
     }
 

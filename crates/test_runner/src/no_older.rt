@@ -32,7 +32,8 @@ impl StoreFiles<MapShelves, MapShelves> for NoOlderFiles {
         name: &'n str,
         _purpose: Use,
     ) -> Result<OpenFile<'n, MapShelves>, StoreRefusal> {
-        self.noted.note(name.as_bytes(), &Deed::Refused);
+        self.noted
+            .note(name.as_bytes(), &Deed::Refused(StoreRefusal::Device));
         Err(StoreRefusal::Device)
     }
 
@@ -47,7 +48,8 @@ impl StoreFiles<MapShelves, MapShelves> for NoOlderFiles {
 
 impl OlderFiles<MapShelves> for NoOlderFiles {
     fn copy(&mut self, from: &str, _beside: &str) -> Result<TemporaryFiles, StoreRefusal> {
-        self.noted.note(from.as_bytes(), &Deed::Refused);
+        self.noted
+            .note(from.as_bytes(), &Deed::Refused(StoreRefusal::Device));
         Err(StoreRefusal::Device)
     }
 

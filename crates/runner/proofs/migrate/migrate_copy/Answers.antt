@@ -2,12 +2,12 @@ use Rattle.std.proofs.Common.{inl, ◌∙◌}
 use Rattle.runner.proofs.MigrateLemmas.{copy_migrated}
 use Rattle.runner.proofs.migrate.migrate_copy.Goals as goal
 
-pub returns : goal.returns
-returns g c = inl (record {
+pub returns-clause-migrates : goal.returns-clause-migrates
+returns-clause-migrates g c = inl (record {
   old = c.in_ok-old.old.store;
   old_new = c.migrate_to-told.new.old;
   begins = c.in_ok-old.ensures.begun.0;
-  migrates = c.migrate_to-told.ensures;
+  migrates = c.migrate_to-told.ensures.migrates;
   done = copy_migrated _ _ _ _ _ _ _ _ _ _ _ _ c.as_str.ensures.value c.as_str-2.ensures.value c.as_str-3.ensures.value
       (c.in_ok-old.ensures.begun.1 ∙ c.as_str.ensures.value) c.in_ok-old.ensures.opened c.unlink.ensures c.unlink-2.ensures
       c.close.ensures;

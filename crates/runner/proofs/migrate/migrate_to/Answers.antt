@@ -2,8 +2,8 @@ use Rattle.std.proofs.Common.{inl}
 use Rattle.store_files.proofs.HistoryLemmas.{opened_closed}
 use Rattle.runner.proofs.migrate.migrate_to.Goals as goal
 
-pub returns : goal.returns
-returns g c = inl (record {
+pub returns-clause-migrates : goal.returns-clause-migrates
+returns-clause-migrates g c = inl (record {
   begun = c.in-Ok.file.store;
   ended = c.migrate_into-told.new.fresh;
   begins = c.in-Ok.ensures.begun.0;

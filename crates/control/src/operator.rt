@@ -103,8 +103,8 @@ pub trait Operator {
             (reads self) (reads result.operator) (writes self) (writes result.operator)) }
         // What was written is flushed.
         ensures flushed { IfOk result.told (λ _. (writes result.operator).unflushed ≡ []) }
-        // No read, and no write, began after its time or waited longer than what was left of it; each line of a catalog
-        // has its own time.
+        // No read, and no write, began after its time, waited longer than what was left of it, or was refused in it;
+        // each line of a catalog has its own time. No write began after the writing side was shut.
         ensures reads_in_time { KeepsTime time_for_order (read_calls self) (read_calls result.operator) }
         ensures writes_in_time { WritesInTime (came self) (came result.operator)
             (write_calls self) (write_calls result.operator) };

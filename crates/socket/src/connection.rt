@@ -68,7 +68,8 @@ pub fn answer_in_time<C: Clock, R: BoundRead + Drop, W: BoundWrite + Drop, S: Sh
         (⟦<Telling<W> as Tell>⟧.writes writer) (⟦<Telling<W> as Tell>⟧.writes result.writer)) }
     // What was written is flushed.
     ensures flushed { IfOk result.status (λ _. (⟦<Telling<W> as Tell>⟧.writes result.writer).unflushed ≡ []) }
-    // No read, and no write, began after its time or waited longer than what was left of it.
+    // No read, and no write, began after its time, waited longer than what was left of it, or was refused in it. No
+    // write began after the writing side was shut.
     ensures reads_in_time { KeepsTime time_for_message
         (⟦<Hearing<R> as HasCalls>⟧.calls reader) (⟦<Hearing<R> as HasCalls>⟧.calls result.reader) }
     ensures writes_in_time { KeepsTime time_for_message
@@ -184,7 +185,8 @@ pub trait Peer {
             (reads self) (reads result.peer) (writes self) (writes result.peer)) }
         // What was written is flushed.
         ensures flushed { IfOk result.status (λ _. (writes result.peer).unflushed ≡ []) }
-        // No read, and no write, began after its time or waited longer than what was left of it.
+        // No read, and no write, began after its time, waited longer than what was left of it, or was refused in it. No
+        // write began after the writing side was shut.
         ensures reads_in_time { KeepsTime time_for_message (read_calls self) (read_calls result.peer) }
         ensures writes_in_time { KeepsTime time_for_message (write_calls self) (write_calls result.peer) };
 
@@ -193,7 +195,8 @@ pub trait Peer {
     where
         Self: Sized,
         ensures written { written result ≡ written self }
-        // So it is of what is still read. Nothing more is written, and the writing side is shut.
+        // So it is of what is still read. No write begins, and the system is asked once to shut the
+        // writing side.
         ensures reads_in_time { KeepsTime time_for_rest (read_calls self) (read_calls result) }
         ensures shuts { write_calls result ≡ call.Shuts ∷ write_calls self };
 }

@@ -1,5 +1,5 @@
 //! A store that is served, with what has to be said of it.
-ghost use Rattle.std.specs.Prelude.{◌≡◌, None, option_copied};
+ghost use Rattle.std.specs.Prelude.{◌≡◌, None, option_copied, true, Err};
 ghost use Rattle.std.specs.FinMap as map;
 ghost use Rattle.control.specs.Metrics.{TellsKept};
 ghost use Rattle.control.specs.Noted.{CountsIf, CountsOrNotes, CountsUnheld, CountsUnmet, NotesFault};
@@ -298,6 +298,9 @@ impl<'a, N: Loan, S: Shelves> Shelves for MonitoredStore<'a, N, S> {
             (λ w. with_entry w (place shelf.now path.now (version_text version.now)) entry.now) }
         ensures counts { CountsUnheld self.old.is_held (errand.PublishVersion path.entry version.entry) result
             shelf.now self.old.traffic self.new.traffic self.old.notice self.new.notice }
+        // A publish that is held back reaches no store.
+        ensures held { self.old.is_held ≡ true
+            → (result ≡ Err StoreFault.Memory) × (self.new.inner ≡ self.old.inner) }
     {
         if self.is_held {
             // No disk failed, so this is not `Device`.

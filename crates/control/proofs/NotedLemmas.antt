@@ -1,13 +1,16 @@
 -- What is noted of a store that is served.
-use Rattle.std.proofs.Common.{◌≡◌, ◌∙◌, ℕ, List, [], ◌∷◌, Option, Some, None, Result, Ok, Err, inl, inr, refl}
+use Rattle.std.proofs.Common.{◌≡◌, ◌≢◌, ◌∙◌, ℕ, List, [], ◌∷◌, Option, Some, None, Result, Ok, Err, inl, inr, refl}
 use Rattle.std.proofs.Common.{subst, sym}
 use Rattle.histories.specs.Calls.{Writes}
 use Rattle.world.specs.declared.registry.StoreFault.{StoreFault}
 use Rattle.control.specs.Faults.{IsHeldBack}
-use Rattle.control.specs.Noted.{AreOf, AreUnheld, CountsIf, CountsUnmet, IsAbout, Noted, NotesFault, noted_line}
-use Rattle.control.specs.Notices.{Met, WritesLines}
+use Rattle.control.specs.Noted.{AreOf, AreOfRoom, AreUnheld, CountsIf, CountsUnmet, IsAbout, Noted, NotesFault}
+use Rattle.control.specs.Noted.{noted_line}
+use Rattle.control.specs.Notices.{Met, Reserved, WritesLines, room_told}
+use Rattle.control.specs.Reserve.{is_whole}
 use Rattle.control.specs.Traffic.{was_found, was_published}
 use Rattle.control.specs.declared.faults.RecentFaults.{RecentFaults}
+use Rattle.control.specs.declared.reserve.Room.{Room}
 use Rattle.control.specs.declared.store_call.StoreCall.{StoreCall}
 use Rattle.control.specs.declared.traffic.Traffic.{Traffic}
 use Rattle.control.specs.declared.traffic.Transfer.{Transfer}
@@ -44,6 +47,14 @@ pub its_line : (noted : Noted) (old : Option Noted) (a b : Option (List ℕ) × 
     → WritesLines (λ lines. lines ≡ noted_line noted ∷ []) a b → WritesLines (AreOf old) a b
 its_line noted old a b is written =
     subst (λ o. WritesLines (AreOf o) a b) (sym is) written
+
+-- what there is of the room on the disk was noted, and its line written
+pub room_written : (old new : Room) (told : Noted) (a b : Option (List ℕ) × Writes) → new ≢ old
+    → IsAbout (Reserved (room_told (is_whole new))) (Some told)
+    → WritesLines (λ lines. lines ≡ noted_line told ∷ []) a b → WritesLines (AreOfRoom old new) a b
+room_written old new told a b changed about written =
+    written_so (λ lines. lines ≡ noted_line told ∷ []) (AreOfRoom old new) a b
+    (λ lines it. inr (changed, told, about, it)) written
 
 module _ (faults : RecentFaults) where
   -- a store noted nothing

@@ -1,13 +1,15 @@
 -- What is noted of a store that is served, and of the orders of its operators.
-use Rattle.std.specs.Prelude.{◌≡◌, ◌⊎◌, Bool, true, false, List, [], ◌∷◌, ◌++◌, ℕ, Option, Some, None, Result, Ok, Err}
+use Rattle.std.specs.Prelude.{◌≡◌, ◌≢◌, ◌⊎◌, Bool, true, false, List, [], ◌∷◌, ◌++◌, ℕ, Option, Some, None, Result, Ok, Err}
 use Rattle.std.specs.Prelude.{IfOk}
 use Rattle.std.specs.declared.alloc.AllocError.{AllocError}
 use Rattle.engine.specs.declared.fault.Io.{Io}
 use Rattle.world.specs.declared.registry.StoreFault.{StoreFault}
 use Rattle.control.specs.Faults.{IsHeldBack}
-use Rattle.control.specs.Notices.{Answered, Lost, Met, Occasion, line_of}
+use Rattle.control.specs.Notices.{Answered, Lost, Met, Occasion, Reserved, line_of, room_told}
+use Rattle.control.specs.Reserve.{is_whole}
 use Rattle.control.specs.Traffic.{CountsOne, StaysUncounted, was_published}
 use Rattle.control.specs.declared.faults.RecentFaults.{RecentFaults}
+use Rattle.control.specs.declared.reserve.Room.{Room}
 use Rattle.control.specs.declared.store_call.StoreCall.{StoreCall}
 use Rattle.control.specs.declared.notice.Notice.{Notice}
 use Rattle.control.specs.declared.traffic.Traffic.{Traffic}
@@ -88,6 +90,13 @@ abbrev pub AreUnheld : RecentFaults → Option Noted → List (List ℕ) → Typ
 AreUnheld faults None lines = lines ≡ []
 AreUnheld faults (Some noted) lines =
     (lines ≡ noted_line noted ∷ []) ⊎ ((lines ≡ []) × IsHeldBack faults (noted_line noted))
+
+-- so it is of the room on the disk: whether all of it is there is written if how much there is changed
+abbrev pub AreOfRoom : Room → Room → List (List ℕ) → Type 0
+AreOfRoom old new lines =
+    ((new ≡ old) × (lines ≡ []))
+    ⊎ ((new ≢ old) × (told : Noted) × IsAbout (Reserved (room_told (is_whole new))) (Some told)
+    × (lines ≡ noted_line told ∷ []))
 
 -- these lines come first, and then others
 abbrev pub BeginsWith : Option Noted → List (List ℕ) → Type 0

@@ -1,12 +1,20 @@
 -- The room on the disk of a store that an order gives up when it meets a fault of the disk.
-use Rattle.std.specs.Prelude.{ℕ, ◌≡◌, ◌≤◌, ◌+◌, ◌-◌, ◌^◌, ◌⊎◌, ◌++◌, true, false, List, [], ◌∷◌, Result, IsErrOf}
+use Rattle.std.specs.Prelude.{ℕ, ◌≡◌, ◌≤◌, ◌+◌, ◌-◌, ◌^◌, ◌⊎◌, ◌++◌, Bool, true, false, List, [], ◌∷◌, Result, IsErrOf}
 use Rattle.world.specs.World.{World}
 use Rattle.world.specs.Store.{Shown, GrewOrFull}
 use Rattle.world.specs.declared.registry.RegistryReply.{RegistryReply}
 use Rattle.world.specs.declared.registry.StoreFault.{StoreFault}
 use Rattle.world.specs.declared.registry.StoreFault.TheVariants.{Device}
+use Rattle.control.specs.declared.reserve.Room.{Room}
+use Rattle.control.specs.declared.reserve.Room.TheVariants.{Whole, Short, Missing}
 use Rattle.control.specs.declared.reserve.RoomDeed.{RoomDeed}
 use Rattle.control.specs.declared.reserve.RoomDeed.TheVariants.{GaveUp, Renewed}
+
+-- all of the room is there
+abbrev pub is_whole : Room → Bool
+is_whole Whole = true
+is_whole Short = false
+is_whole Missing = false
 
 -- where a crash leaves only this world, it leaves any other or this one, which says less
 abbrev pub LeavesOthers : Shown → Type 0

@@ -1,5 +1,6 @@
 //! Room on the disk of a store that is served, which is kept so that an order can be carried out once the disk is full.
 ghost use Rattle.std.specs.Prelude.{◌≡◌, []};
+ghost use Rattle.control.specs.Reserve as spec;
 
 use crate::copies::CopyOrders;
 use store_files::record::Record;
@@ -43,6 +44,15 @@ pub enum Room {
     Short,
     /// None is kept.
     Missing,
+}
+
+impl Room {
+    /// Whether all of it is there.
+    pub(crate) fn is_whole(self) -> bool
+        ensures { result ≡ spec.is_whole self }
+    {
+        matches!(self, Room::Whole)
+    }
 }
 
 /// What keeps room on the disk of a served store.

@@ -2,7 +2,7 @@
 ghost use Rattle.std.specs.Prelude.{◌≡◌, ◌↔◌, [], false, IsTrue, None, Ok};
 ghost use Rattle.socket.specs.Connections.{both};
 ghost use Rattle.control.specs.Health.{tally_of};
-ghost use Rattle.control.specs.Noted.{AreUnheld, BeginsWith};
+ghost use Rattle.control.specs.Noted.{AreOfRoom, AreUnheld, BeginsWith};
 ghost use Rattle.control.specs.Notices.{AreAny, WritesLines, WritesNotices};
 ghost use Rattle.control.specs.Progress.{IsGoing};
 ghost use Rattle.control.specs.Visits.{AnswersOne};
@@ -161,7 +161,7 @@ impl<
         ensures same { self.new.callers ≡ self.old.callers }
         ensures progress { self.new.progress ≡ self.old.progress }
         ensures notes { WritesNotices (E.contents self.old.errors.now) (E.contents self.new.errors.now) }
-        ensures tells { WritesLines AreAny
+        ensures tells { WritesLines (AreOfRoom self.old.room self.new.room)
             (both E.contents E.writes self.old.errors.now) (both E.contents E.writes self.new.errors.now) }
         ensures same_errors { self.new.errors.ghost_name ≡ self.old.errors.ghost_name }
     {
@@ -170,7 +170,7 @@ impl<
             return;
         }
         self.room = room;
-        tell(reserved(self.alloc, room == Room::Whole), self.errors);
+        tell(reserved(self.alloc, room.is_whole()), self.errors);
     }
 
     /// Does so unless all of it was there when it was last looked for.
@@ -178,7 +178,7 @@ impl<
         ensures same { self.new.callers ≡ self.old.callers }
         ensures progress { self.new.progress ≡ self.old.progress }
         ensures notes { WritesNotices (E.contents self.old.errors.now) (E.contents self.new.errors.now) }
-        ensures tells { WritesLines AreAny
+        ensures tells { WritesLines (AreOfRoom self.old.room self.new.room)
             (both E.contents E.writes self.old.errors.now) (both E.contents E.writes self.new.errors.now) }
         ensures same_errors { self.new.errors.ghost_name ≡ self.old.errors.ghost_name }
     {

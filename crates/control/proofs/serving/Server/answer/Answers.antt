@@ -7,4 +7,4 @@ returns-clause-notes g c = notices_more _ _ _ c.keep_room_unless_whole.ensures.n
 
 pub returns-clause-tells : goal.returns-clause-tells
 returns-clause-tells g c = written_then AreAny AreAny AreAny _ _ _ (λ few more one two. tt)
-    c.keep_room_unless_whole.ensures.tells (any_written _ _ c.tell_of.ensures.tells)
+    (any_written _ _ c.keep_room_unless_whole.ensures.tells) (any_written _ _ c.tell_of.ensures.tells)

@@ -1,4 +1,5 @@
-use Rattle.control.specs.Notices.{AreAny}
+use Rattle.std.proofs.Common.{inl, refl}
+use Rattle.control.specs.Noted.{AreOfRoom}
 use Rattle.control.proofs.NoticeLemmas.{none_written, notices_none}
 use Rattle.control.proofs.serving.Server.keep_room_unless_whole.Goals as goal
 
@@ -6,4 +7,5 @@ pub returns-then-eq-clause-notes : goal.returns-then-eq-clause-notes
 returns-then-eq-clause-notes g c = notices_none _
 
 pub returns-then-eq-clause-tells : goal.returns-then-eq-clause-tells
-returns-then-eq-clause-tells g c = none_written AreAny _ tt
+returns-then-eq-clause-tells g c =
+    none_written (AreOfRoom c.args.self.now.room c.args.self.now.room) _ (inl (refl, refl))

@@ -82,6 +82,16 @@ abbrev pub Comes : Extent → Came → List ℕ → ℕ → ℕ → Account → 
 Comes extent All got_new len len_new came_new = IsAll extent got_new ⊎ IsTrue came_new.is_over
 Comes extent other got_new len len_new came_new = IsPartAfter extent len len_new
 
+-- No more reads began than bytes came and calls failed, but for so many.
+abbrev pub ReadsFew : ℕ → Reads → Reads → ℕ → ℕ → Type 0
+ReadsFew spare reads reads_new len len_new =
+    reads_new.begun + reads.failed + len ≤ reads.begun + reads_new.failed + len_new + spare
+
+-- the reads that may give nothing where one came to this: the last one
+abbrev pub spare : Came → ℕ
+spare All = 1
+spare other = 0
+
 -- It was read, behind other bytes, and no more has to be.
 pub record ReadsReply (extent : Extent) (came came_new : Account) (got got_new : List ℕ) : Type 0 where
   pub more : ReadsMore came came_new got got_new

@@ -129,6 +129,8 @@ pub(crate) fn read_reply<R: Hear>(
         → IsUnreadable most_reads (R.reads reader.old) (R.reads reader.new)) }
     ensures memory { IfErr result (λ why. why ≡ ReadError.Memory
         → spec.LacksRoom extent (vec_capacity got.old) (vec_len got.old)) }
+    // Each read but the last gave some bytes or failed.
+    ensures few { spec.ReadsFew 1 (R.reads reader.old) (R.reads reader.new) (vec_len got.old) (vec_len got.new) }
 {
     for _ in 0..u64::MAX {
         match hear_on(reader, got, extent)? {
@@ -159,6 +161,12 @@ pub fn hear_on<R: Hear>(
         → (R.reads reader.old).failed < (R.reads reader.new).failed) }
     ensures memory { IfErr result (λ why. why ≡ ReadError.Memory
         → vec_capacity got.old < vec_len got.old + spec.most_read) }
+    // A part is some bytes.
+    ensures on { IfOk result (λ came. came ≡ Came.Part → vec_len got.old < vec_len got.new) }
+    // It gives some bytes or fails, unless no more has to be read.
+    ensures spends { IfOk result (λ came. spec.ReadsFew (spec.spare came)
+        (R.reads reader.old) (R.reads reader.new) (vec_len got.old) (vec_len got.new)) }
+    ensures few { spec.ReadsFew 1 (R.reads reader.old) (R.reads reader.new) (vec_len got.old) (vec_len got.new) }
 {
     let mut chunk = [0; MOST_READ];
     match reader.hear(&mut chunk) {

@@ -1,9 +1,10 @@
 use Rattle.std.specs.Prelude.{vec_capacity, vec_len}
 use Rattle.std.proofs.Common.{◌≤◌}
-use Rattle.control.specs.Line.{HasTried, IsPartAfter, ReadsMore}
+use Rattle.control.specs.Line.{HasTried, IsPartAfter, ReadsFew, ReadsMore}
 use Rattle.control.proofs.line.read_reply.Given as goal
 
--- the bytes so far are what was read, by so many reads or by fewer, of which one failed, and there is no less room
+-- the bytes so far are what was read, by so many reads or by fewer, of which one failed, and there is no less room; each
+-- read gave some of them or failed
 abbrev pub invariant-loop : goal.invariant-loop
 invariant-loop g l =
     let reads = g.R.Hear.reads in
@@ -13,4 +14,5 @@ invariant-loop g l =
       tried : HasTried l.counter (reads l.fn.reader) (reads l.reader);
       room : vec_capacity l.fn.got ≤ vec_capacity l.got;
       part : IsPartAfter l.extent (vec_len l.fn.got) (vec_len l.got);
+      few : ReadsFew 0 (reads l.fn.reader) (reads l.reader) (vec_len l.fn.got) (vec_len l.got);
     }

@@ -1,7 +1,7 @@
 -- A line among the bytes that were read.
-use Rattle.std.specs.Prelude.{ℕ, ◌≡◌, ◌<◌, ◌≤◌, ◌+◌, ◌⊎◌, ◌++◌, Bool, IsTrue, List, length, Contains}
+use Rattle.std.specs.Prelude.{ℕ, ◌≡◌, ◌<◌, ◌≤◌, ◌+◌, ◌⊎◌, ◌++◌, Bool, IsTrue, List, [], length, Contains}
 use Rattle.histories.specs.Account.{Account, Gives}
-use Rattle.histories.specs.Calls.{Reads}
+use Rattle.histories.specs.Calls.{BeginsNone, Reads}
 use Rattle.engine.specs.Causes.{IsUnreadable}
 use Rattle.orders.specs.Order.{longest_copy}
 use Rattle.orders.specs.Words.{line_end}
@@ -24,6 +24,17 @@ pub record ReadsOn (most : ℕ) (came came_new : Account) (got got_new : List �
   pub gives : Gives came came_new bytes
   pub behind : got_new ≡ got ++ bytes
   pub enough : IsTrue done → IsEnough most got_new came_new
+
+-- One read at most began, and what it gave came.
+abbrev pub AsksOnce : Account → Account → Reads → Reads → Type 0
+AsksOnce came came_new reads reads_new =
+    (BeginsNone reads reads_new × Gives came came_new []) ⊎ Gives came came_new reads_new.last
+
+-- No read began once a line had ended in the bytes, or more of them had come than a line may have.
+abbrev pub AsksWhileOpen : ℕ → Account → Account → Reads → Reads → Type 0
+AsksWhileOpen most came came_new reads reads_new =
+    (BeginsNone reads reads_new × Gives came came_new [])
+    ⊎ ((early : List ℕ) × Gives came came_new (early ++ reads_new.last) × (¬ HasEnough most early))
 
 -- these bytes were read, behind others
 pub record ReadsMore (came came_new : Account) (got got_new : List ℕ) : Type 0 where

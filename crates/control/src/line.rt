@@ -1,6 +1,8 @@
 //! Reading lines.
-ghost use Rattle.std.specs.Prelude.{◌≡◌, ◌<◌, ◌≤◌, ◌+◌, ◌↔◌, IfOk, IfErr, IsTrue, OnOk, vec_capacity, vec_len};
+ghost use Rattle.std.specs.Prelude.{◌≡◌, ◌<◌, ◌≤◌, ◌+◌, ◌⊎◌, ◌↔◌, false, IfOk, IfErr, IsTrue, OnOk, vec_capacity};
+ghost use Rattle.std.specs.Prelude.{vec_len};
 ghost use Rattle.engine.specs.Causes.{IsUnreadable, most_reads};
+ghost use Rattle.orders.specs.Order.{longest_copy};
 ghost use Rattle.control.specs.Line as spec;
 
 use histories::Hear;
@@ -46,6 +48,9 @@ pub(crate) fn read_line<R: Hear>(alloc: Global, reader: &mut R) -> Result<Vec<u8
     ensures reads { IfOk result (λ got. spec.ReadsLine (R.account reader.old) (R.account reader.new) got.items) }
     ensures cause { IfErr result (λ why. why ≡ ReadError.Io
         → IsUnreadable spec.most_tries (R.reads reader.old) (R.reads reader.new)) }
+    // No read began once a line had ended, or more bytes had come than a line may have.
+    ensures asks { spec.AsksWhileOpen longest_copy (R.account reader.old) (R.account reader.new)
+        (R.reads reader.old) (R.reads reader.new) }
 {
     read_to(alloc, reader, LONGEST_LINE)
 }
@@ -61,6 +66,9 @@ pub(crate) fn read_to<R: Hear>(
     // Where memory did not run out, a read failed, or all that there are began.
     ensures cause { IfErr result (λ why. why ≡ ReadError.Io
         → IsUnreadable spec.most_tries (R.reads reader.old) (R.reads reader.new)) }
+    // No read began once enough had come.
+    ensures asks { spec.AsksWhileOpen most (R.account reader.old) (R.account reader.new)
+        (R.reads reader.old) (R.reads reader.new) }
 {
     let mut got = Vec::with_capacity(alloc, most.saturating_add(1))?;
     for _ in 0..TRIES {
@@ -79,6 +87,11 @@ fn read_on<R: Hear>(reader: &mut R, got: &mut Vec<u8>, most: usize) -> Result<bo
     ensures tried { IfOk result (λ _. spec.HasTried 1 (R.reads reader.old) (R.reads reader.new)) }
     ensures fails { IfErr result (λ why. why ≡ ReadError.Io
         → (R.reads reader.old).failed < (R.reads reader.new).failed) }
+    // More has to be read only if no line has ended, or if nothing came.
+    ensures more { IfOk result (λ done. done ≡ false
+        → (got.new.items ≡ got.old.items) ⊎ (¬ spec.HasEnough most got.new.items)) }
+    ensures once { spec.AsksOnce (R.account reader.old) (R.account reader.new)
+        (R.reads reader.old) (R.reads reader.new) }
 {
     let mut chunk = [0; MOST_READ];
     match reader.hear(&mut chunk) {

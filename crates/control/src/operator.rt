@@ -6,8 +6,8 @@ ghost use Rattle.histories.specs.Account.{Account};
 ghost use Rattle.histories.specs.Timing.{KeepsEach, KeepsTime};
 ghost use Rattle.control.specs.Health.{IsPinged};
 ghost use Rattle.control.specs.Hearing.{ObeysBy, WritesSome};
-ghost use Rattle.orders.specs.Order.{IsLineOf, Catalog};
-ghost use Rattle.control.specs.Line.{ReadsLine, most_tries};
+ghost use Rattle.orders.specs.Order.{IsLineOf, Catalog, longest_copy};
+ghost use Rattle.control.specs.Line.{AsksWhileOpen, ReadsLine, most_tries};
 ghost use Rattle.control.specs.Pace.{WritesInTime, time_for_order};
 ghost use Rattle.control.specs.Pinging.{TellsPing};
 ghost use Rattle.control.specs.ControlReply.{bytes_told};
@@ -50,9 +50,10 @@ pub trait Operator {
     ghost use Rattle.engine.specs.Causes.{IsCausedIn};
     ghost use Rattle.control.specs.Health.{IsPinged};
     ghost use Rattle.control.specs.Hearing.{ObeysBy};
-    ghost use Rattle.control.specs.Line.{most_tries};
+    ghost use Rattle.control.specs.Line.{AsksWhileOpen, most_tries};
     ghost use Rattle.control.specs.Pace.{WritesInTime, time_for_order};
     ghost use Rattle.control.specs.Pinging.{TellsPing};
+    ghost use Rattle.orders.specs.Order.{longest_copy};
 
     /// The bytes that came from it so far.
     ghost came: { Self → Account };
@@ -101,6 +102,9 @@ pub trait Operator {
         // It fails only if a call to read or to write failed or was refused, or if no read is left.
         ensures cause { IfErr result.told (IsCausedIn most_tries
             (reads self) (reads result.operator) (writes self) (writes result.operator)) }
+        // No read began once a line had ended, or more bytes had come than a line may have.
+        ensures asks { AsksWhileOpen longest_copy (came self) (came result.operator)
+            (reads self) (reads result.operator) }
         // What was written is flushed.
         ensures flushed { IfOk result.told (λ _. (writes result.operator).unflushed ≡ []) }
         // No read, and no write, began after its time, waited longer than what was left of it, or was refused in it;
@@ -166,6 +170,9 @@ fn obey_since<
     ensures cause { IfErr result.told (IsCausedIn most_tries
         (⟦<Hearing<R> as Hear>⟧.reads operator.reader) (⟦<Hearing<R> as Hear>⟧.reads result.operator.reader)
         (⟦<Telling<W> as Tell>⟧.writes operator.writer) (⟦<Telling<W> as Tell>⟧.writes result.operator.writer)) }
+    ensures asks { AsksWhileOpen longest_copy
+        (⟦<Hearing<R> as Hear>⟧.account operator.reader) (⟦<Hearing<R> as Hear>⟧.account result.operator.reader)
+        (⟦<Hearing<R> as Hear>⟧.reads operator.reader) (⟦<Hearing<R> as Hear>⟧.reads result.operator.reader) }
     ensures flushed { IfOk result.told (λ _. (⟦<Telling<W> as Tell>⟧.writes result.operator.writer).unflushed ≡ []) }
     ensures reads_in_time { KeepsTime time_for_order I.calls
         (⟦<Hearing<R> as HasCalls>⟧.calls result.operator.reader) }

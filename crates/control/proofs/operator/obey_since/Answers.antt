@@ -22,6 +22,10 @@ returns-clause-obeys g c = elim c.match-got.branch [
       w.tell_since-writer.ensures.tells)
 ]
 
+pub returns-clause-asks : goal.returns-clause-asks
+returns-clause-asks g c =
+    rw c.into_inner-reader.ensures.same (rw c.new-line.ensures at c.read_line-got.ensures.asks)
+
 pub returns-clause-writes_in_time : goal.returns-clause-writes_in_time
 returns-clause-writes_in_time g c = elim c.match-got.branch [
   | in-Ok w ↦ rw (w.writer-is, c.into_inner-reader.ensures.same)

@@ -165,18 +165,22 @@ pub answered_one : {P : Type 0} (heard : P → Account × Reads) (written : P �
 answered_one heard written old new peer after (Ok status) (first, takes, through, is, ended) cause = record {
   answers = record { first = Some first; there = (takes, inr ended); through = through };
   counts = is;
+  cause = λ unwritten. cc;
 }
 answered_one heard written old new peer after (Err io.Read) (got, consumed, unfinished, through, same) cause = record {
   answers = record { first = None; there = (same, cause); through = through };
   counts = refl;
+  cause = λ unwritten. cc;
 }
 answered_one heard written old new peer after (Err io.Write) (first, takes, through, inl begun) cause = record {
   answers = record { first = Some first; there = (takes, inl (begun, cause)); through = through };
   counts = refl;
+  cause = λ unwritten. cause;
 }
 answered_one heard written old new peer after (Err io.Write) (first, takes, through, inr ended) cause = record {
   answers = record { first = Some first; there = (takes, inr ended); through = through };
   counts = refl;
+  cause = λ unwritten. cause;
 }
 
 -- ---- those who come

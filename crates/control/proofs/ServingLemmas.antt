@@ -176,7 +176,7 @@ module _ {P O : Type 0} (heeded : O → Account × Reads) (told : O → Option (
           serves_one (OfPeer visit next.answered)
           (subst (λ w. Come door.0 w (Peer peer ∷ [])) (sym next.ended.waits) takes.comes)
           (happened_peer door mid end visit next.answered takes next.ended) (one_new (Peer peer) fresh)
-          (next.answers.answers.there, next.answers.counts)
+          (next.answers.answers.there, next.answers.counts, next.answers.cause)
           (steps_first (shown s) (shown t) first next.answers.answers.through)
           (λ h w stands. no_reads shown made counted w (exchanges_of first))
           next.tally tt next.left next.taken

@@ -1,6 +1,6 @@
 -- Peers and operators, one after another.
 use Rattle.std.specs.Prelude.{ℕ, ◌≡◌, ◌<◌, ◌≤◌, ◌+◌, ◌-◌, ◌^◌, ◌⊎◌, ◌↔◌, Bool, IsTrue}
-use Rattle.std.specs.Prelude.{List, [], ◌∷◌, ◌++◌, length, map, All, Option, Some, None, Result, Ok, Err}
+use Rattle.std.specs.Prelude.{List, [], ◌∷◌, ◌++◌, length, map, All, Option, Some, None, Result, Ok, Err, IsErrOf}
 use Rattle.std.specs.Io.KnownBytes.{Appends, Keeps}
 use Rattle.histories.specs.Account.{Account}
 use Rattle.histories.specs.Calls.{Reads, Writes}
@@ -171,11 +171,16 @@ abbrev pub AllTallied : {P O : Type 0} → List ℕ → List (Call P O) → List
 AllTallied since before [] = Unit {0}
 AllTallied since before (call ∷ calls) = IsTallied since before call × AllTallied since (before ++ call ∷ []) calls
 
+-- if the reply counts as one that was not written, a call to write it or to flush it failed
+abbrev pub FailsIfUnwritten : Answered → ℕ → ℕ → Type 0
+FailsIfUnwritten answered failed failed_new = IsErrOf answered io.Write → failed < failed_new
+
 -- A peer was answered, and left so, and its connection counts as what became of it.
 pub record AnswersOne {P : Type 0} (heard : P → Account × Reads) (written : P → Option (List ℕ) × Writes)
     (peer gone : P) (old new : Shown) (answered : Answered) : Type 0 where
   pub answers : socket.Answers heard written peer gone old new
   pub counts : CountsAs answers.first answered
+  pub cause : FailsIfUnwritten answered (written peer).1.failed (written gone).1.failed
 
 module _ {O : Type 0} (heeded : O → Account × Reads) (told : O → Option (List ℕ) × Writes) where
   -- What was read came from this operator, and what came of it went to this operator: the whole line, or where a write
@@ -208,13 +213,16 @@ module _ {O : Type 0} (heeded : O → Account × Reads) (told : O → Option (Li
 
   module _ {P : Type 0} (heard : P → Account × Reads) (written : P → Option (List ℕ) × Writes) where
     abbrev pub IsCallThere : Call P O → Type 0
-    IsCallThere (OfPeer visit answered) = socket.IsAnsweredThere heard written visit × CountsAs visit.first answered
+    IsCallThere (OfPeer visit answered) =
+        socket.IsAnsweredThere heard written visit × CountsAs visit.first answered
+        × FailsIfUnwritten answered (written visit.before).1.failed (written visit.after).1.failed
     IsCallThere (OfOperator audience) = IsToldThere audience.before audience.after audience.heard audience.told
     IsCallThere Untaken = Unit {0}
 
     -- The callers were served one after another, each once, and at most as many peers as there are connections. Each
-    -- was new. What a peer sent was answered to that peer, and the outcome of an operator's order went to that
-    -- operator. Nobody else was taken, and each who was taken was ended as it was left.
+    -- was new. What a peer sent was answered to that peer, whose connection counts as failed only if a call of it
+    -- failed. The outcome of an operator's order went to that operator. Nobody else was taken, and each who was taken
+    -- was ended as it was left.
     pub record ServesEach (is_new : Caller P O → Type 0) (door left : Door (Caller P O)) (old new : Shown)
         (connections : ℕ) : Type 0 where
       pub calls : List (Call P O)

@@ -13,7 +13,7 @@ use Rattle.engine.specs.declared.fault.Io.{Io}
 use Rattle.engine.specs.declared.fault.Io.TheVariants as io
 use Rattle.engine.proofs.StoreLemmas.{through_none, through_more}
 use Rattle.socket.specs.Connections.{Answers, Come, exchanges_of}
-use Rattle.socket.specs.History.{Door, Ends, Takes, TakesNone}
+use Rattle.socket.specs.History.{Door, Ends, Takes, TakesNoPeer}
 use Rattle.socket.specs.Serving.{AnswersEach, AnswersNext, Call, IsServed, OfPeer, Untaken}
 use Rattle.socket.specs.Serving.{deeds_of, deeds_with, exchanges_at, exchanges_in, peers_of}
 use Rattle.socket.specs.declared.callers.Caller.{Caller}
@@ -100,7 +100,7 @@ module _ {P : Type 0} (heard : P → Account × Reads) (written : P → Option (
     }
 
     -- a connection that could not be taken
-    pub next_untaken : (door left : Door (Caller P O)) (shown : Shown) → TakesNone door left
+    pub next_untaken : (door left : Door (Caller P O)) (shown : Shown) → TakesNoPeer door left
         → AnswersNext heard written is_new door left shown shown
     next_untaken door left shown takes = record {
       call = Untaken;

@@ -27,10 +27,18 @@ pub record Takes {C : Type 0} (door left : Door C) (caller : C) : Type 0 where
   pub comes : Come door.0 left.0 (caller ∷ [])
   pub noted : left.1 ≡ door.1 ++ ([], deed.Taken caller) ∷ []
 
--- A connection was to be taken, and was not. Nothing else was done.
-pub record TakesNone {C : Type 0} (door left : Door C) : Type 0 where
+-- A connection was to be taken, and was not, as this deed says. Nothing else was done.
+pub record Misses {C : Type 0} (door left : Door C) (what : Deed C) : Type 0 where
   pub comes : Come door.0 left.0 []
-  pub noted : left.1 ≡ door.1 ++ ([], deed.Untaken) ∷ []
+  pub noted : left.1 ≡ door.1 ++ ([], what) ∷ []
+
+-- so it is where whoever comes next was to be taken
+abbrev pub TakesNone : {C : Type 0} → Door C → Door C → Type 0
+TakesNone door left = Misses door left deed.Untaken
+
+-- so it is where a peer was to be taken and no operator comes in
+abbrev pub TakesNoPeer : {C : Type 0} → Door C → Door C → Type 0
+TakesNoPeer door left = Misses door left deed.UntakenPeer
 
 -- the next was taken, or nobody if that failed
 abbrev pub TakesNext : {C E : Type 0} → Door C → Door C → Result C E → Type 0
@@ -51,15 +59,15 @@ abbrev pub callers_in : {P O : Type 0} → List O → List P → List (Caller P 
 callers_in operators peers = map Operator operators ++ map Peer peers
 
 module _ {P O : Type 0} where
-  -- what is done where the next peer was to be taken
+  -- what is done where the next peer was to be taken, and no operator comes in
   abbrev pub took_peer : {E : Type 0} → Result P E → Done (Caller P O)
   took_peer (Ok peer) = ([], deed.Taken (Peer peer))
-  took_peer (Err e) = ([], deed.Untaken)
+  took_peer (Err e) = ([], deed.UntakenPeer)
 
   -- the next peer was taken, or nobody if that failed
   abbrev pub TakesPeer : {E : Type 0} → Door (Caller P O) → Door (Caller P O) → Result P E → Type 0
   TakesPeer door left (Ok peer) = Takes door left (Peer peer)
-  TakesPeer door left (Err e) = TakesNone door left
+  TakesPeer door left (Err e) = TakesNoPeer door left
 
 -- who asks for the first entrance gets the second: the same, or any port in the place of port 0
 abbrev pub IsBoundFor : ListenOn → ListenOn → Type 0

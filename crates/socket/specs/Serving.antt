@@ -11,7 +11,7 @@ use Rattle.socket.specs.declared.callers.Caller.{Caller}
 use Rattle.socket.specs.declared.callers.Caller.TheVariants.{Peer}
 use Rattle.socket.specs.declared.deed.Deed.TheVariants as deed
 
--- a peer whose connection was taken, as it came and as it was left; or a connection that could not be taken
+-- a peer whose connection was taken, as it came and as it was left; or one of a peer that could not be taken
 pub data Call (P : Type 0) : Type 0 where
   OfPeer : Visit P → Call P
   Untaken : Call P
@@ -25,7 +25,7 @@ peers_of (Untaken ∷ calls) = peers_of calls
 -- what is done for one: the connection is taken, and ended as it was left; or it could not be taken
 abbrev pub deeds_of : {P O : Type 0} → Call P → List (Done (Caller P O))
 deeds_of (OfPeer visit) = ([], deed.Taken (Peer visit.before)) ∷ ([], deed.Ended (Peer visit.after)) ∷ []
-deeds_of Untaken = ([], deed.Untaken) ∷ []
+deeds_of Untaken = ([], deed.UntakenPeer) ∷ []
 
 abbrev pub deeds_with : {P O : Type 0} → List (Call P) → List (Done (Caller P O))
 deeds_with [] = []

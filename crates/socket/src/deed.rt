@@ -35,6 +35,8 @@ pub enum Deed<C> {
     Taken(C),
     /// A connection was to be taken, and was not.
     Untaken,
+    /// That of a peer was to be taken where no operator comes in, and was not.
+    UntakenPeer,
     /// The connection of this one was ended, as it was left.
     Ended(C),
 }
@@ -57,7 +59,8 @@ pub fn note_taken<C: Drop>(noted: &mut Record<Deed<C>>, next: io::Result<C>) -> 
                 | Deed::Unmade
                 | Deed::Removed
                 | Deed::Closed
-                | Deed::Untaken => unreachable!(),
+                | Deed::Untaken
+                | Deed::UntakenPeer => unreachable!(),
             }
         }
         Err(error) => {
@@ -67,7 +70,7 @@ pub fn note_taken<C: Drop>(noted: &mut Record<Deed<C>>, next: io::Result<C>) -> 
     }
 }
 
-/// Notes that the connection of a peer was taken, or was not, and returns the result.
+/// Notes that the connection of a peer was taken where no operator comes in, or was not, and returns the result.
 pub fn note_peer<P: Drop, O: Drop>(
     noted: &mut Record<Deed<Caller<P, O>>>,
     next: io::Result<P>,
@@ -89,11 +92,12 @@ pub fn note_peer<P: Drop, O: Drop>(
                 | Deed::Unmade
                 | Deed::Removed
                 | Deed::Closed
-                | Deed::Untaken => unreachable!(),
+                | Deed::Untaken
+                | Deed::UntakenPeer => unreachable!(),
             }
         }
         Err(error) => {
-            noted.note(b"", &Deed::Untaken);
+            noted.note(b"", &Deed::UntakenPeer);
             Err(error)
         }
     }
@@ -115,6 +119,7 @@ pub fn note_ended<C: Drop>(noted: &mut Record<Deed<C>>, caller: C) -> C
         | Deed::Unmade
         | Deed::Removed
         | Deed::Closed
-        | Deed::Untaken => unreachable!(),
+        | Deed::Untaken
+        | Deed::UntakenPeer => unreachable!(),
     }
 }

@@ -1,9 +1,10 @@
 -- What is noted of a store that is served.
 use Rattle.std.proofs.Common.{◌≡◌, ◌≢◌, ◌∙◌, ℕ, List, [], ◌∷◌, Option, Some, None, Result, Ok, Err, inl, inr, refl}
-use Rattle.std.proofs.Common.{subst, sym}
+use Rattle.std.proofs.Common.{subst, sym, true, false}
+use Rattle.std.specs.declared.time.Instant.{Instant}
 use Rattle.histories.specs.Calls.{Writes}
 use Rattle.world.specs.declared.registry.StoreFault.{StoreFault}
-use Rattle.control.specs.Faults.{IsHeldBack}
+use Rattle.control.specs.Faults.{Admits}
 use Rattle.control.specs.Noted.{AreOf, AreOfRoom, AreUnheld, CountsIf, CountsUnmet, IsAbout, Noted, NotesFault}
 use Rattle.control.specs.Noted.{noted_line}
 use Rattle.control.specs.Notices.{Met, Reserved, WritesLines, room_told}
@@ -56,22 +57,26 @@ room_written old new told a b changed about written =
     written_so (λ lines. lines ≡ noted_line told ∷ []) (AreOfRoom old new) a b
     (λ lines it. inr (changed, told, about, it)) written
 
-module _ (faults : RecentFaults) where
-  -- a store noted nothing
-  pub no_fault : (old : Option Noted) (a : Option (List ℕ) × Writes) → old ≡ None
-      → WritesLines (AreUnheld faults old) a a
-  no_fault old a is = none_written (AreUnheld faults old) a (subst (λ n. AreUnheld faults n []) (sym is) refl)
-
-  -- what it noted is held back
-  pub held_fault : (noted : Noted) (old : Option Noted) (a : Option (List ℕ) × Writes) → old ≡ Some noted
-      → IsHeldBack faults (noted_line noted) → WritesLines (AreUnheld faults old) a a
-  held_fault noted old a is held =
-      none_written (AreUnheld faults old) a (subst (λ n. AreUnheld faults n []) (sym is) (inr (refl, held)))
+module _ (faults faults_new : RecentFaults) where
+  -- what a store noted is held back
+  pub held_fault : (now : Option Instant) (noted : Noted) (old : Option Noted) (a : Option (List ℕ) × Writes)
+      → old ≡ Some noted → Admits now faults faults_new (noted_line noted) false
+      → WritesLines (AreUnheld faults faults_new old) a a
+  held_fault now noted old a is admits =
+      none_written (AreUnheld faults faults_new old) a
+      (subst (λ n. AreUnheld faults faults_new n []) (sym is) (now, false, admits, refl))
 
   -- what it noted was written
-  pub its_fault : (noted : Noted) (old : Option Noted) (a b : Option (List ℕ) × Writes) → old ≡ Some noted
-      → WritesLines (λ lines. lines ≡ noted_line noted ∷ []) a b → WritesLines (AreUnheld faults old) a b
-  its_fault noted old a b is written =
-      subst (λ o. WritesLines (AreUnheld faults o) a b) (sym is)
-      (written_so (λ lines. lines ≡ noted_line noted ∷ []) (AreUnheld faults (Some noted)) a b (λ lines it. inl it)
-      written)
+  pub its_fault : (now : Option Instant) (noted : Noted) (old : Option Noted) (a b : Option (List ℕ) × Writes)
+      → old ≡ Some noted → Admits now faults faults_new (noted_line noted) true
+      → WritesLines (λ lines. lines ≡ noted_line noted ∷ []) a b → WritesLines (AreUnheld faults faults_new old) a b
+  its_fault now noted old a b is admits written =
+      subst (λ o. WritesLines (AreUnheld faults faults_new o) a b) (sym is)
+      (written_so (λ lines. lines ≡ noted_line noted ∷ []) (AreUnheld faults faults_new (Some noted)) a b
+      (λ lines it. (now, true, admits, it)) written)
+
+-- a store noted nothing
+pub no_fault : (faults : RecentFaults) (old : Option Noted) (a : Option (List ℕ) × Writes) → old ≡ None
+    → WritesLines (AreUnheld faults faults old) a a
+no_fault faults old a is =
+    none_written (AreUnheld faults faults old) a (subst (λ n. AreUnheld faults faults n []) (sym is) (refl, refl))

@@ -1,10 +1,11 @@
 -- What is noted of a store that is served, and of the orders of its operators.
 use Rattle.std.specs.Prelude.{◌≡◌, ◌≢◌, ◌⊎◌, Bool, true, false, List, [], ◌∷◌, ◌++◌, ℕ, Option, Some, None, Result, Ok, Err}
-use Rattle.std.specs.Prelude.{IfOk}
+use Rattle.std.specs.Prelude.{IfOk, cond}
+use Rattle.std.specs.declared.time.Instant.{Instant}
 use Rattle.std.specs.declared.alloc.AllocError.{AllocError}
 use Rattle.engine.specs.declared.fault.Io.{Io}
 use Rattle.world.specs.declared.registry.StoreFault.{StoreFault}
-use Rattle.control.specs.Faults.{IsHeldBack}
+use Rattle.control.specs.Faults.{Admits}
 use Rattle.control.specs.Notices.{Answered, Lost, Met, Occasion, Reserved, line_of, room_told}
 use Rattle.control.specs.Reserve.{is_whole}
 use Rattle.control.specs.Traffic.{CountsOne, StaysUncounted, was_published}
@@ -85,11 +86,12 @@ abbrev pub AreOf : Option Noted → List (List ℕ) → Type 0
 AreOf None lines = lines ≡ []
 AreOf (Some noted) lines = lines ≡ noted_line noted ∷ []
 
--- so it is of a fault, which is not told while it is held back
-abbrev pub AreUnheld : RecentFaults → Option Noted → List (List ℕ) → Type 0
-AreUnheld faults None lines = lines ≡ []
-AreUnheld faults (Some noted) lines =
-    (lines ≡ noted_line noted ∷ []) ⊎ ((lines ≡ []) × IsHeldBack faults (noted_line noted))
+-- so it is of a fault that is admitted behind those of the last minute, and no other is told
+abbrev pub AreUnheld : RecentFaults → RecentFaults → Option Noted → List (List ℕ) → Type 0
+AreUnheld faults faults_new None lines = (lines ≡ []) × (faults_new ≡ faults)
+AreUnheld faults faults_new (Some noted) lines =
+    (now : Option Instant) × (admitted : Bool) × Admits now faults faults_new (noted_line noted) admitted
+    × (lines ≡ cond admitted (noted_line noted ∷ []) [])
 
 -- so it is of the room on the disk: whether all of it is there is written if how much there is changed
 abbrev pub AreOfRoom : Room → Room → List (List ℕ) → Type 0

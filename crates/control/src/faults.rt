@@ -1,11 +1,10 @@
 //! The faults that were told in the last minute.
-ghost use Rattle.std.specs.Prelude.{◌≡◌, ◌≤◌, Bool, [], bytes_eq, false, true, vec_len};
+ghost use Rattle.std.specs.Prelude.{◌≡◌, [], bytes_eq};
 ghost use Rattle.std.specs.List.{list_any};
 ghost use Rattle.control.specs.Faults as spec;
-ghost use Rattle.control.specs.declared.faults.Fault.{Fault};
 
 use std::alloc::Global;
-use std::time::{Clock, Duration, Instant};
+use std::time::Instant;
 use text::Text;
 
 /// The seconds in which a fault is not told again.
@@ -38,12 +37,12 @@ impl RecentFaults {
         }
     }
 
-    /// Returns whether the line of a fault is to be written now, and remembers it: not if it was in the last minute, or
-    /// if `MOST` lines were. While the clock can't be read, no minute ends. If memory runs out, it is not remembered.
-    pub(crate) fn admits<C: Clock>(&mut self, alloc: Global, clock: &C, line: &str) -> bool
-        ensures { result ≡ false → spec.IsHeldBack self.old line.now }
+    /// Returns whether the line of a fault is to be written at this reading of the clock, and remembers it: not if it
+    /// was in the last minute, or if `MOST` lines were. While the clock can't be read, no minute ends. If memory runs
+    /// out, it is not remembered.
+    pub(crate) fn admits(&mut self, alloc: Global, now: Option<Instant>, line: &str) -> bool
+        ensures { spec.Admits now self.old self.new line.now result }
     {
-        let now = Instant::now(clock).ok();
         self.forget(now);
         if self.told.len() >= MOST {
             return false;
@@ -58,9 +57,7 @@ impl RecentFaults {
     /// Forgets the faults that were told longer ago than `PAUSE`, and those that were told when the clock could not be
     /// read.
     fn forget(&mut self, now: Option<Instant>)
-        ensures few { vec_len self.new.told ≤ vec_len self.old.told }
-        ensures same { (test : Fault → Bool) → list_any test self.new.told.items ≡ true
-            → list_any test self.old.told.items ≡ true }
+        ensures { self.new.told.items ≡ spec.remembered now self.old.told.items }
     {
         let Some(now) = now else {
             return;
@@ -69,7 +66,9 @@ impl RecentFaults {
     }
 
     /// Remembers a fault that is told now, if memory does not run out.
-    fn remember(&mut self, alloc: Global, line: &str, now: Option<Instant>) {
+    fn remember(&mut self, alloc: Global, line: &str, now: Option<Instant>)
+        ensures { spec.Remembers self.old.told.items self.new.told.items line.now now }
+    {
         if let Ok(line) = Text::copy_of(alloc, line) {
             let _ = self.told.push(Fault { line, at: now });
         }
@@ -77,9 +76,11 @@ impl RecentFaults {
 }
 
 /// Whether what was told then was told in the last minute.
-fn is_recent(at: Option<Instant>, now: Instant) -> bool {
+fn is_recent(at: Option<Instant>, now: Instant) -> bool
+    ensures { result ≡ spec.is_recent now at }
+{
     match at {
-        Some(at) => now.duration_since(at) < Duration::from_secs(PAUSE),
+        Some(at) => now.duration_since(at).as_secs() < PAUSE,
         None => false,
     }
 }

@@ -195,7 +195,7 @@ impl<
         ensures store { watched.new.inner ≡ watched.old.inner }
         ensures forgets { watched.new.notice ≡ None }
         ensures notes { WritesNotices (E.contents self.old.errors.now) (E.contents self.new.errors.now) }
-        ensures tells { WritesLines (AreUnheld self.old.faults watched.old.notice)
+        ensures tells { WritesLines (AreUnheld self.old.faults self.new.faults watched.old.notice)
             (both E.contents E.writes self.old.errors.now) (both E.contents E.writes self.new.errors.now) }
         ensures same_errors { self.new.errors.ghost_name ≡ self.old.errors.ghost_name }
     {

@@ -11,7 +11,7 @@ use crate::notice::Noted;
 use engine::write::write_bytes;
 use histories::Tell;
 use std::alloc::Global;
-use std::time::Clock;
+use std::time::{Clock, Instant};
 use world::shelves::Shelves;
 
 /// The line that says that memory ran out for another, or for the counts of a shelf.
@@ -51,13 +51,14 @@ pub(crate) fn tell_next<C: Clock, N: Loan, S: Shelves, E: Tell>(
     ensures same { watched.new.inner ≡ watched.old.inner }
     ensures forgets { watched.new.notice ≡ None }
     ensures notes { WritesNotices (E.contents errors.old) (E.contents errors.new) }
-    ensures tells { WritesLines (AreUnheld faults.old watched.old.notice)
+    ensures tells { WritesLines (AreUnheld faults.old faults.new watched.old.notice)
         (both E.contents E.writes errors.old) (both E.contents E.writes errors.new) }
 {
     let Some(noted) = watched.take() else {
         return;
     };
-    if !faults.admits(alloc, clock, noted_line(&noted)) {
+    let now = Instant::now(clock).ok();
+    if !faults.admits(alloc, now, noted_line(&noted)) {
         return;
     }
     tell(noted, errors);

@@ -15,10 +15,12 @@ returns-then-not-admits-clause-notes g c = notices_none _
 
 pub returns-then-not-admits-clause-tells : goal.returns-then-not-admits-clause-tells
 returns-then-not-admits-clause-tells g c =
-    held_fault c.args.faults.now c.in-Some.noted c.args.watched.now.notice _ (sym c.in-Some.ensures.value)
-    (rw c.noted_line.ensures.value at (c.admits.ensures c.if-not-admits.true))
+    held_fault c.args.faults.now c.admits.new.self _ c.in-Some.noted c.args.watched.now.notice _
+    (sym c.in-Some.ensures.value)
+    (rw (c.noted_line.ensures.value, c.if-not-admits.true) at c.admits.ensures)
 
 pub returns-clause-tells : goal.returns-clause-tells
 returns-clause-tells g c =
-    its_fault c.args.faults.now c.in-Some.noted c.args.watched.now.notice _ _ (sym c.in-Some.ensures.value)
-    c.tell.ensures.tells
+    its_fault c.args.faults.now c.admits.new.self _ c.in-Some.noted c.args.watched.now.notice _ _
+    (sym c.in-Some.ensures.value)
+    (rw (c.noted_line.ensures.value, c.if-not-admits.false) at c.admits.ensures) c.tell.ensures.tells

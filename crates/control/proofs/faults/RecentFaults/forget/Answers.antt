@@ -1,9 +1,8 @@
-use Rattle.std.proofs.Common.{◌≡◌, subst, true}
-use Rattle.std.specs.List.{list_any}
-use Rattle.control.proofs.FaultLemmas.{any_kept}
+use Rattle.std.proofs.Common.{rules}
+use Rattle.std.proofs.lemmas.Fn.{filter_same}
+use Rattle.control.specs.Faults.{is_recent}
 use Rattle.control.proofs.faults.RecentFaults.forget.Goals as goal
 
-pub returns-clause-same : goal.returns-clause-same
-returns-clause-same c = λ test some.
-    let kept = c.retain.ensures.filtered in
-    any_kept test kept.0 c.args.self.now.told.items (subst (λ l. list_any test l ≡ true) kept.4 some)
+pub returns : goal.returns
+returns c = rw c.in-Some.is (filter_same _ (λ fault. is_recent c.in-Some.now fault.at) _ (λ fault b f' k. search rules) _ _
+    c.retain.ensures.filtered)

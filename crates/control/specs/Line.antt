@@ -95,8 +95,8 @@ Comes extent other got_new len len_new came_new = IsPartAfter extent len len_new
 
 -- No more reads began than bytes came and calls failed, but for so many.
 abbrev pub ReadsFew : ℕ → Reads → Reads → ℕ → ℕ → Type 0
-ReadsFew spare reads reads_new len len_new =
-    reads_new.begun + reads.failed + len ≤ reads.begun + reads_new.failed + len_new + spare
+ReadsFew extra reads reads_new len len_new =
+    reads_new.begun + reads.failed + len ≤ reads.begun + reads_new.failed + len_new + extra
 
 -- the reads that may give nothing where one came to this: the last one
 abbrev pub spare : Came → ℕ

@@ -39,7 +39,7 @@ module _ {E : Type 0} (came came_new : Account) (reads reads_new : Reads) where
 
 -- a test that says no, of what it decides
 pub not_so : {X : Type 0} (r : Bool) → IsTrue r ↔ X → r ≡ false → ¬ X
-not_so r both no = λ x. false≢true (sym no ∙ both.1 x)
+not_so r both says = λ x. false≢true (sym says ∙ both.1 x)
 
 -- no line has ended in no bytes
 pub none_enough : (most : ℕ) → ¬ HasEnough most []
@@ -77,4 +77,4 @@ module _ (most : ℕ) where
   pub still_open : (got got_new : List ℕ) → ¬ HasEnough most got → (got_new ≡ got) ⊎ (¬ HasEnough most got_new)
       → ¬ HasEnough most got_new
   still_open got got_new unended (inl same) = λ enough. unended (subst (HasEnough most) same enough)
-  still_open got got_new unended (inr no) = no
+  still_open got got_new unended (inr still) = still

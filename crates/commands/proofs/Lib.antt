@@ -1,3 +1,4 @@
+mod Actions
 mod InventoryLines
 mod OutlineLines
 mod ImportLists

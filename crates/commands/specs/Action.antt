@@ -3,6 +3,7 @@ use Rattle.std.specs.Borrow.{Bor}
 use Rattle.std.specs.Prelude.{ℕ, List, [], ◌≡◌, true, Bool, Option, option_copied, Result, Ok, Err}
 use Rattle.histories.specs.Account.{Account}
 use Rattle.histories.specs.Calls.{Reads, Writes}
+use Rattle.control.specs.Notices.{WritesNotices}
 use Rattle.socket.specs.History.{Door}
 use Rattle.socket.specs.declared.callers.Caller.{Caller}
 use Rattle.socket.specs.declared.deed.ListenOn.{ListenOn}
@@ -71,8 +72,7 @@ abbrev pub acceptance : Result (Unit {0}) CommandRefusal → Result Bool Command
 acceptance (Ok u) = Ok true
 acceptance (Err refusal) = Err refusal
 
-module _ {S N P O : Type 0} (views : Views N P O) (shown : S → Shown) (made : Made S) (counted : Counted S)
-    (old new : Moment S N) where
+module _ {S N P O : Type 0} (views : Views N P O) (shown : S → Shown) (old new : Moment S N) where
   -- the registry command was carried out on the store, and nothing was read or written
   pub record RegistersAlone (command : RegistryCommand) (result : Result Bool CommandRefusal) : Type 0 where
     pub ended : Result (Unit {0}) CommandRefusal
@@ -102,6 +102,34 @@ module _ {S N P O : Type 0} (views : Views N P O) (shown : S → Shown) (made : 
     pub told : result ≡ acceptance ended
     pub outside : new.outside ≡ old.outside
 
+  -- What is done by the kind of action that is no `serve`: nothing, one command of the registry, a key that is made is
+  -- added, the key of a fingerprint is revoked, one publish, those of a list, an inventory, a catalog, the requirements
+  -- of a version, or a list of the keys or of the shelves is printed, or all requests of the input are answered.
+  abbrev pub ActsAlone : Result Bool CommandRefusal → Action → Type 0
+  ActsAlone result action.Open = (new ≡ old) × (result ≡ Ok true)
+  ActsAlone result (action.Register command) = RegistersAlone command result
+  ActsAlone result (action.AddNew shelf right) = AddsNewAlone shelf right result
+  ActsAlone result (action.RevokeByFingerprint fingerprint) = RevokesNamedAlone fingerprint.now result
+  ActsAlone result (action.Publish words files) =
+      PublishesFiles files (views.read old.outside) (views.read new.outside) shown old.store new.store (asked_by words)
+      old.written new.written result × OnlyReads views old new
+  ActsAlone result (action.Import key list) =
+      ImportsFile shown old.store new.store key.now list.now (views.read old.outside) (views.read new.outside)
+      old.written new.written result × OnlyReads views old new
+  ActsAlone result (action.Inventory key) =
+      PrintsInventory (shown old.store) (shown new.store) key.now old.written new.written result × KeepsInput old new
+  ActsAlone result (action.Catalog key) =
+      PrintsCatalogOf (shown old.store) (shown new.store) key.now old.written new.written result × KeepsInput old new
+  ActsAlone result (action.Requires version) =
+      PrintsRequirements (shown old.store) (shown new.store) version old.written new.written result
+      × KeepsInput old new
+  ActsAlone result (action.List listing) =
+      PrintsList (shown old.store) (shown new.store) listing old.written new.written result × KeepsInput old new
+  ActsAlone result action.Answer = AnswersFrom result
+  ActsAlone result (action.Serve entrance connections control) = ⊥
+
+module _ {S N P O : Type 0} (views : Views N P O) (shown : S → Shown) (made : Made S) (counted : Counted S)
+    (old new : Moment S N) where
   -- callers who came in outside were served from the store, by what a calendar showed, and nothing was read from the
   -- input or from files
   pub record ServesConnections
@@ -116,30 +144,19 @@ module _ {S N P O : Type 0} (views : Views N P O) (shown : S → Shown) (made : 
     pub came : new.came ≡ old.came
     pub read : views.read new.outside ≡ views.read old.outside
 
-  -- What is done by the kind of action: nothing, one command of the registry, a key that is made is added, the key of a
-  -- fingerprint is revoked, one publish, those of a list, an inventory, a catalog, the requirements of a version, or a
-  -- list of the keys or of the shelves is printed, all requests of the input are answered, or no more requests than
-  -- there are connections, and orders, copies and pings between them.
+  -- What is done by the kind of action: no more requests than there are connections are answered, and orders, copies
+  -- and pings between them; or an action is done that is no `serve`.
   abbrev pub Acts : Result Bool CommandRefusal → Action → Type 0
-  Acts result action.Open = (new ≡ old) × (result ≡ Ok true)
-  Acts result (action.Register command) = RegistersAlone command result
-  Acts result (action.AddNew shelf right) = AddsNewAlone shelf right result
-  Acts result (action.RevokeByFingerprint fingerprint) = RevokesNamedAlone fingerprint.now result
-  Acts result (action.Publish words files) =
-      PublishesFiles files (views.read old.outside) (views.read new.outside) shown old.store new.store (asked_by words)
-      old.written new.written result × OnlyReads views old new
-  Acts result (action.Import key list) =
-      ImportsFile shown old.store new.store key.now list.now (views.read old.outside) (views.read new.outside)
-      old.written new.written result × OnlyReads views old new
-  Acts result (action.Inventory key) =
-      PrintsInventory (shown old.store) (shown new.store) key.now old.written new.written result × KeepsInput old new
-  Acts result (action.Catalog key) =
-      PrintsCatalogOf (shown old.store) (shown new.store) key.now old.written new.written result × KeepsInput old new
-  Acts result (action.Requires version) =
-      PrintsRequirements (shown old.store) (shown new.store) version old.written new.written result
-      × KeepsInput old new
-  Acts result (action.List listing) =
-      PrintsList (shown old.store) (shown new.store) listing old.written new.written result × KeepsInput old new
-  Acts result action.Answer = AnswersFrom result
   Acts result (action.Serve entrance connections control) =
       ServesConnections entrance connections (option_copied control) result
+  Acts result other = ActsAlone views shown old new result other
+
+-- the action is no `serve`
+abbrev pub IsNoServe : Action → Type 0
+IsNoServe (action.Serve entrance connections control) = ⊥
+IsNoServe other = Unit {0}
+
+-- what is written to the writer of errors: notices by a `serve`, and nothing by another action
+abbrev pub WritesErrors : Action → Option (List ℕ) → Option (List ℕ) → Type 0
+WritesErrors (action.Serve entrance connections control) errors errors_new = WritesNotices errors errors_new
+WritesErrors other errors errors_new = errors_new ≡ errors

@@ -1,5 +1,6 @@
 //! What commands do on an open store, whichever it is. `act_on` has no runtime of the system: it reaches what it is
-//! handed, and the histories of that say all that it did there.
+//! handed, and the histories of that say all that it did there. `act_alone`, which does each action but `serve`, has
+//! none of what `serve` needs besides: no clock, no copies, and no writer of errors.
 ghost use Rattle.std.specs.Prelude.{◌≡◌, []};
 ghost use Rattle.commands.specs.Action as spec;
 ghost use Rattle.commands.specs.RandomBytes.{no_draws};
@@ -94,10 +95,10 @@ pub struct Outside<N, F> {
 /// accepted. `copies` makes the copies that are ordered while the store is served, and counts its versions for a ping.
 ///
 /// It has no handle of the system, so what it reaches is what it is handed. `serve` lets callers in by the entrances of
-/// `outside`, and writes notices to `errors`; no other action opens those. A publish and an import read by the files of
-/// `outside`, and no other action does. A key is made of `random`. `clock` bounds the time of callers, `calendar` shows
-/// when a `serve` began, and `copied` when a copy was made. `progress` shows how far an import is. Fails as the
-/// function of the action does.
+/// `outside`, and writes notices to `errors`; no other action opens those, or writes there. A publish and an import
+/// read by the files of `outside`, and no other action does. A key is made of `random`. `clock` bounds the time of
+/// callers, `calendar` shows when a `serve` began, and `copied` when a copy was made. `progress` shows how far an
+/// import is. Fails as the function of the action does.
 pub fn act_on<
     C: Clock,
     D: WallClock + Drop,
@@ -128,7 +129,7 @@ pub fn act_on<
 ) -> Result<bool, CommandRefusal>
     requires unshown { D.shown calendar.old ≡ [] }
     requires undrawn { B.drawn random.old ≡ no_draws }
-    ensures { spec.Acts
+    ensures acts { spec.Acts
         (record {
           heeded = both Q.came Q.reads;
           told = both Q.written Q.writes;
@@ -139,6 +140,80 @@ pub fn act_on<
           read = spec.of_files F.history;
         })
         S.shown K.made K.counted
+        (record {
+          store = shelves.old;
+          outside = outside.old;
+          came = I.account input.old;
+          written = O.contents output.old;
+        })
+        (record {
+          store = shelves.new;
+          outside = outside.new;
+          came = I.account input.new;
+          written = O.contents output.new;
+        })
+        result action.now }
+    // Only `serve` writes to `errors`, and only notices.
+    ensures notes { spec.WritesErrors action.now (E.contents errors.old) (E.contents errors.new) }
+{
+    match action {
+        Action::Serve {
+            entrance,
+            connections,
+            control,
+        } => acceptance(serve(
+            alloc,
+            clock,
+            calendar,
+            copied,
+            shelves,
+            copies,
+            &mut outside.entrances,
+            *entrance,
+            *connections,
+            *control,
+            output,
+            errors,
+        )),
+        _ => act_alone(
+            alloc, random, progress, shelves, outside, action, input, output,
+        ),
+    }
+}
+
+/// Does an action that is no `serve`, and returns whether it was accepted. Fails as the function of the action does.
+fn act_alone<
+    B: RandomBytes,
+    S: Outlines + Keyring,
+    P: Peer + Drop,
+    Q: Operator + Drop,
+    N: Entrances<P, Q>,
+    F: Sources,
+    I: Hear,
+    O: Tell,
+>(
+    alloc: Global,
+    random: &mut B,
+    progress: &ImportProgress<'_>,
+    shelves: &mut S,
+    outside: &mut Outside<N, F>,
+    action: &Action,
+    input: &mut I,
+    output: &mut O,
+) -> Result<bool, CommandRefusal>
+    requires no_serve { spec.IsNoServe action.now }
+    requires undrawn { B.drawn random.old ≡ no_draws }
+    ensures acts { spec.ActsAlone
+        (record {
+          heeded = both Q.came Q.reads;
+          told = both Q.written Q.writes;
+          heard = both P.came P.reads;
+          written = both P.written P.writes;
+          is_new = N.is_new;
+          door = spec.of_entrances (both N.waiting N.history);
+          read = spec.of_files F.history;
+        })
+        S.shown
         (record {
           store = shelves.old;
           outside = outside.old;
@@ -179,24 +254,7 @@ pub fn act_on<
         Action::Requires { version } => print_requirements(alloc, shelves, version, output),
         Action::List { listing } => print_list(alloc, shelves, *listing, output),
         Action::Answer => acceptance(answer_input(alloc, shelves, input, output)),
-        Action::Serve {
-            entrance,
-            connections,
-            control,
-        } => acceptance(serve(
-            alloc,
-            clock,
-            calendar,
-            copied,
-            shelves,
-            copies,
-            &mut outside.entrances,
-            *entrance,
-            *connections,
-            *control,
-            output,
-            errors,
-        )),
+        Action::Serve { .. } => unreachable!(),
     }
 }
 

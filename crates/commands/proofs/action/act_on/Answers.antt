@@ -1,24 +1,9 @@
-use Rattle.std.proofs.Common.{refl, subst}
-use Rattle.commands.specs.NewKey.{AddsNew}
+use Rattle.std.proofs.Common.{refl}
+use Rattle.commands.proofs.Actions.{any_action, unwritten}
 use Rattle.commands.proofs.action.act_on.Goals as goal
 
-pub returns-in-AddNew : goal.returns-in-AddNew
-returns-in-AddNew g c =
-    let drawn_new = g.B.RandomBytes.drawn c.add_new.new.random in
-    rw c.in-AddNew.is (record {
-      drawn = drawn_new;
-      ended = c.add_new.result;
-      adds = subst
-          (λ drawn. AddsNew g.S.Shelves.shown drawn drawn_new c.args.shelves.now c.add_new.new.shelves c.in-AddNew.shelf
-          c.in-AddNew.right (g.O.Write.contents c.args.output.now) (g.O.Write.contents c.add_new.new.output)
-          c.add_new.result)
-          c.requires.undrawn c.add_new.ensures.adds;
-      told = c.acceptance-in-AddNew.ensures;
-      keeps = record { came = refl; outside = refl };
-    })
-
-pub returns-in-Serve : goal.returns-in-Serve
-returns-in-Serve g c =
+pub returns-in-Serve-clause-acts : goal.returns-in-Serve-clause-acts
+returns-in-Serve-clause-acts g c =
     let serves = rw c.requires.unshown at c.serve.ensures.serves in
     rw c.in-Serve.is (record {
       times = g.D.WallClock.shown c.serve.new.calendar;
@@ -28,3 +13,10 @@ returns-in-Serve g c =
       came = refl;
       read = refl;
     })
+
+pub returns-in_default-clause-acts : goal.returns-in_default-clause-acts
+returns-in_default-clause-acts g c = any_action _ _ _ _ _ _ _ c.args.action.now c.act_alone.ensures.acts
+
+pub returns-in_default-clause-notes : goal.returns-in_default-clause-notes
+returns-in_default-clause-notes g c =
+    unwritten c.args.action.now (g.E.Write.contents c.args.errors.now) c.in_default.not-Serve

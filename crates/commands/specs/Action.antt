@@ -160,3 +160,11 @@ IsNoServe other = Unit {0}
 abbrev pub WritesErrors : Action → Option (List ℕ) → Option (List ℕ) → Type 0
 WritesErrors (action.Serve entrance connections control) errors errors_new = WritesNotices errors errors_new
 WritesErrors other errors errors_new = errors_new ≡ errors
+
+-- A key was made of the bytes that were drawn, and printed and added. Another action draws nothing.
+abbrev pub DrawsFor : {S : Type 0} → (S → Shown) → Action → Drawn → Drawn → S → S → Option (List ℕ) → Option (List ℕ)
+    → Result Bool CommandRefusal → Type 0
+DrawsFor shown (action.AddNew shelf right) drawn drawn_new old new written written_new result =
+    (ended : Result (Unit {0}) CommandRefusal) × (result ≡ acceptance ended)
+    × AddsNew shown drawn drawn_new old new shelf right written written_new ended
+DrawsFor shown other drawn drawn_new old new written written_new result = drawn_new ≡ drawn

@@ -155,6 +155,9 @@ pub fn act_on<
         result action.now }
     // Only `serve` writes to `errors`, and only notices.
     ensures notes { spec.WritesErrors action.now (E.contents errors.old) (E.contents errors.new) }
+    // A key is made of what `random` gave, and no other action draws from it.
+    ensures draws { spec.DrawsFor S.shown action.now (B.drawn random.old) (B.drawn random.new) shelves.old shelves.new
+        (O.contents output.old) (O.contents output.new) result }
 {
     match action {
         Action::Serve {
@@ -227,6 +230,8 @@ fn act_alone<
           written = O.contents output.new;
         })
         result action.now }
+    ensures draws { spec.DrawsFor S.shown action.now (B.drawn random.old) (B.drawn random.new) shelves.old shelves.new
+        (O.contents output.old) (O.contents output.new) result }
 {
     match action {
         Action::Open => Ok(true),

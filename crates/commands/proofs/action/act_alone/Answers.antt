@@ -16,3 +16,7 @@ returns-in-AddNew-clause-acts g c =
       told = c.acceptance-in-AddNew.ensures;
       keeps = record { came = refl; outside = refl };
     })
+
+pub returns-in-AddNew-clause-draws : goal.returns-in-AddNew-clause-draws
+returns-in-AddNew-clause-draws g c =
+    rw c.in-AddNew.is (c.add_new.result, c.acceptance-in-AddNew.ensures, c.add_new.ensures.adds)

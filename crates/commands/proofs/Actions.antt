@@ -1,15 +1,15 @@
--- An action that is no `serve`.
+-- What an action does, and why it failed.
 use Rattle.std.specs.Borrow.{Bor}
-use Rattle.std.proofs.Common.{◌≡◌, ℕ, List, Bool, Option, Result, refl}
+use Rattle.std.proofs.Common.{◌≡◌, ℕ, List, Bool, Option, Result, Ok, Err, IfErr, refl, subst, sym}
 use Rattle.socket.specs.declared.deed.ListenOn.{ListenOn}
 use Rattle.world.specs.Store.{Shown}
-use Rattle.commands.specs.Action.{Acts, ActsAlone, Moment, Views, WritesErrors}
+use Rattle.commands.specs.Action.{Acts, ActsAlone, Moment, Views, WritesErrors, acceptance}
 use Rattle.commands.specs.Serve.{Counted, Made}
 use Rattle.commands.specs.declared.action.Action.{Action}
 use Rattle.commands.specs.declared.action.Action.TheVariants as action
 use Rattle.commands.specs.declared.refusal.CommandRefusal.{CommandRefusal}
 
--- what it does is what an action does
+-- what an action that is no `serve` does is what an action does
 pub any_action : {S N P O : Type 0} (views : Views N P O) (shown : S → Shown) (made : Made S) (counted : Counted S)
     (old new : Moment S N) (result : Result Bool CommandRefusal) (act : Action)
     → ActsAlone views shown old new result act → Acts views shown made counted old new result act
@@ -23,3 +23,13 @@ pub unwritten : (act : Action) (errors : Option (List ℕ))
     → WritesErrors act errors errors
 unwritten (action.Serve entrance connections control) errors other = absurd (other entrance connections control refl)
 unwritten _ errors other = refl
+
+-- why a command failed is why it was not accepted
+because : (ended : Result (Unit {0}) CommandRefusal) (why : CommandRefusal → Type 0) → IfErr ended why
+    → IfErr (acceptance ended) why
+because (Ok u) why has = tt
+because (Err refusal) why has = has
+
+pub not_accepted : (ended : Result (Unit {0}) CommandRefusal) (result : Result Bool CommandRefusal)
+    (why : CommandRefusal → Type 0) → result ≡ acceptance ended → IfErr ended why → IfErr result why
+not_accepted ended result why is has = subst (λ r. IfErr r why) (sym is) (because ended why has)

@@ -14,6 +14,7 @@ use Rattle.commands.specs.Ending.{Registers, RevokesNamed}
 use Rattle.commands.specs.ImportFile.{ImportsFile}
 use Rattle.commands.specs.NewKey.{AddsNew}
 use Rattle.commands.specs.Opening.{AnswersAll}
+use Rattle.commands.specs.Printed.{FailsUnprinted}
 use Rattle.commands.specs.Publish.{asked_by, PublishesFiles}
 use Rattle.commands.specs.RandomBytes.{Drawn, no_draws}
 use Rattle.commands.specs.Report.{PrintsCatalogOf, PrintsInventory, PrintsList, PrintsRequirements}
@@ -168,3 +169,10 @@ DrawsFor shown (action.AddNew shelf right) drawn drawn_new old new written writt
     (ended : Result (Unit {0}) CommandRefusal) × (result ≡ acceptance ended)
     × AddsNew shown drawn drawn_new old new shelf right written written_new ended
 DrawsFor shown other drawn drawn_new old new written written_new result = drawn_new ≡ drawn
+
+-- If making a key failed, nothing was printed, unless a call of the output failed. Of another action this says nothing.
+abbrev pub PrintsKeyFor : Action → Option (List ℕ) → Option (List ℕ) → Writes → Writes → Result Bool CommandRefusal
+    → Type 0
+PrintsKeyFor (action.AddNew shelf right) written written_new writes writes_new result =
+    FailsUnprinted written written_new writes writes_new result
+PrintsKeyFor other written written_new writes writes_new result = Unit {0}

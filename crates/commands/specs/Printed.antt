@@ -41,6 +41,12 @@ abbrev pub FailsEarlyOrByOutput : {S T : Type 0} → S → S → Option (List �
 FailsEarlyOrByOutput old new written written_new writes writes_new result =
     IfErr result (λ e. e ≡ Io → ((new ≡ old) × (written_new ≡ written)) ⊎ HasFailed writes writes_new)
 
+-- a command that failed printed nothing, or a call of its output failed
+abbrev pub FailsUnprinted : {T : Type 0} → Option (List ℕ) → Option (List ℕ) → Writes → Writes
+    → Result T CommandRefusal → Type 0
+FailsUnprinted written written_new writes writes_new result =
+    IfErr result (λ e. (written_new ≡ written) ⊎ HasFailed writes writes_new)
+
 -- what was to be printed was refused with this result, or the output failed
 abbrev pub HasCause : Writes → Writes → Result Bool CommandRefusal → Result (List ℕ) CommandRefusal → Type 0
 HasCause writes writes_new result told = IfErr result (λ e. (told ≡ Err e) ⊎ HasFailed writes writes_new)

@@ -158,6 +158,9 @@ pub fn act_on<
     // A key is made of what `random` gave, and no other action draws from it.
     ensures draws { spec.DrawsFor S.shown action.now (B.drawn random.old) (B.drawn random.new) shelves.old shelves.new
         (O.contents output.old) (O.contents output.new) result }
+    // If the making of a key fails, nothing is printed, unless a call of the output failed.
+    ensures whole { spec.PrintsKeyFor action.now (O.contents output.old) (O.contents output.new)
+        (O.writes output.old) (O.writes output.new) result }
 {
     match action {
         Action::Serve {
@@ -232,6 +235,8 @@ fn act_alone<
         result action.now }
     ensures draws { spec.DrawsFor S.shown action.now (B.drawn random.old) (B.drawn random.new) shelves.old shelves.new
         (O.contents output.old) (O.contents output.new) result }
+    ensures whole { spec.PrintsKeyFor action.now (O.contents output.old) (O.contents output.new)
+        (O.writes output.old) (O.writes output.new) result }
 {
     match action {
         Action::Open => Ok(true),

@@ -5,7 +5,7 @@ ghost use Rattle.commands.specs.Connection.{IsAll};
 ghost use Rattle.commands.specs.Ending.{Registers};
 ghost use Rattle.commands.specs.NewKey as spec;
 ghost use Rattle.commands.specs.Order.{OrdersAt};
-ghost use Rattle.commands.specs.Printed.{HasFailed};
+ghost use Rattle.commands.specs.Printed.{FailsUnprinted, HasFailed};
 
 use crate::printing::print_both;
 use crate::random_bytes::{RandomBytes, SystemRandomBytes};
@@ -39,6 +39,9 @@ pub fn add_new<B: RandomBytes, S: Shelves, O: Tell>(
     // It ends with `Io` only if there are no random bytes, they make no key, or a call of the output failed.
     ensures cause { spec.HasCause result (spec.HasNoKey (B.drawn random.old) (B.drawn random.new)
         (O.writes output.old) (O.writes output.new)) }
+    // If it fails, it printed nothing, unless a call of the output failed.
+    ensures whole { FailsUnprinted (O.contents output.old) (O.contents output.new)
+        (O.writes output.old) (O.writes output.new) result }
     // What was printed is flushed.
     ensures flushed { OnOk result ((O.writes output.new).unflushed ≡ []) }
 {
@@ -98,6 +101,9 @@ pub fn order_new<B: RandomBytes, R: Hear, W: Tell, V: Servers<R, W>, O: Tell>(
         (λ (link : Link R W) passed. IsAll (R.account link.reader) (R.reads link.reader)
         (W.contents link.writer) (W.writes link.writer).failed passed)
         path.now (B.drawn random.old) (B.drawn random.new) (O.writes output.old) (O.writes output.new)) }
+    // If it fails, it printed nothing, unless a call of the output failed.
+    ensures whole { FailsUnprinted (O.contents output.old) (O.contents output.new)
+        (O.writes output.old) (O.writes output.new) result }
     // What was printed is flushed.
     ensures flushed { OnOk result ((O.writes output.new).unflushed ≡ []) }
 {
@@ -127,6 +133,8 @@ fn add_key<S: Shelves, O: Tell>(
     ensures adds { spec.AddsKey (λ old new order ended. Registers (S.shown old) (S.shown new) order ended)
         shelf.entry right key.entry shelves.old shelves.new (O.contents output.old) (O.contents output.new) result }
     ensures cause { spec.HasCause result (HasFailed (O.writes output.old) (O.writes output.new)) }
+    ensures whole { FailsUnprinted (O.contents output.old) (O.contents output.new)
+        (O.writes output.old) (O.writes output.new) result }
     ensures flushed { OnOk result ((O.writes output.new).unflushed ≡ []) }
 {
     if let Err(refusal) = register(shelves, &RegistryCommand::KeyAdd { shelf, key, right }) {
@@ -158,6 +166,8 @@ fn order_key<R: Hear, W: Tell, V: Servers<R, W>, O: Tell>(
         (λ (link : Link R W) passed. IsAll (R.account link.reader) (R.reads link.reader)
         (W.contents link.writer) (W.writes link.writer).failed passed)
         path.now)) (O.writes output.old) (O.writes output.new)) }
+    ensures whole { FailsUnprinted (O.contents output.old) (O.contents output.new)
+        (O.writes output.old) (O.writes output.new) result }
     ensures flushed { OnOk result ((O.writes output.new).unflushed ≡ []) }
 {
     if let Err(refusal) = order_at(

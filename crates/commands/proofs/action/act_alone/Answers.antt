@@ -1,5 +1,6 @@
 use Rattle.std.proofs.Common.{refl, subst}
 use Rattle.commands.specs.NewKey.{AddsNew}
+use Rattle.commands.proofs.Actions.{not_accepted}
 use Rattle.commands.proofs.action.act_alone.Goals as goal
 
 pub returns-in-AddNew-clause-acts : goal.returns-in-AddNew-clause-acts
@@ -20,3 +21,7 @@ returns-in-AddNew-clause-acts g c =
 pub returns-in-AddNew-clause-draws : goal.returns-in-AddNew-clause-draws
 returns-in-AddNew-clause-draws g c =
     rw c.in-AddNew.is (c.add_new.result, c.acceptance-in-AddNew.ensures, c.add_new.ensures.adds)
+
+pub returns-in-AddNew-clause-whole : goal.returns-in-AddNew-clause-whole
+returns-in-AddNew-clause-whole g c =
+    rw c.in-AddNew.is (not_accepted c.add_new.result _ _ c.acceptance-in-AddNew.ensures c.add_new.ensures.whole)

@@ -1,9 +1,10 @@
 -- What an action does, and why it failed.
 use Rattle.std.specs.Borrow.{Bor}
 use Rattle.std.proofs.Common.{◌≡◌, ℕ, List, Bool, Option, Result, Ok, Err, IfErr, refl, subst, sym}
+use Rattle.histories.specs.Calls.{Writes}
 use Rattle.socket.specs.declared.deed.ListenOn.{ListenOn}
 use Rattle.world.specs.Store.{Shown}
-use Rattle.commands.specs.Action.{Acts, ActsAlone, Moment, Views, WritesErrors, acceptance}
+use Rattle.commands.specs.Action.{Acts, ActsAlone, Moment, ServesFor, Views, WritesErrors, acceptance}
 use Rattle.commands.specs.Serve.{Counted, Made}
 use Rattle.commands.specs.declared.action.Action.{Action}
 use Rattle.commands.specs.declared.action.Action.TheVariants as action
@@ -15,6 +16,16 @@ pub any_action : {S N P O : Type 0} (views : Views N P O) (shown : S → Shown) 
     → ActsAlone views shown old new result act → Acts views shown made counted old new result act
 any_action views shown made counted old new result (action.Serve entrance connections control) acts = absurd acts
 any_action views shown made counted old new result _ acts = acts
+
+-- nobody is served
+pub serves_none : {S N P O : Type 0} (views : Views N P O) (shown : S → Shown) (made : Made S) (counted : Counted S)
+    (old new : Moment S N) (writes writes_new : Writes) (result : Result Bool CommandRefusal) (act : Action)
+    → ((entrance : ListenOn) (connections : ℕ) (control : Option (Bor (List ℕ)))
+    → ¬ (act ≡ action.Serve entrance connections control))
+    → ServesFor views shown made counted old new writes writes_new result act
+serves_none views shown made counted old new writes writes_new result (action.Serve entrance connections control) other =
+    absurd (other entrance connections control refl)
+serves_none views shown made counted old new writes writes_new result _ other = tt
 
 -- it writes nothing to the writer of errors
 pub unwritten : (act : Action) (errors : Option (List ℕ))

@@ -14,7 +14,7 @@ use Rattle.socket.specs.declared.deed.ListenOn.TheVariants.{Port, Input}
 use Rattle.control.specs.WallClock.{Shows}
 use Rattle.control.specs.Copying.{Making, GoesOnRead, IsOnlyRead}
 use Rattle.control.specs.Visits.{EndsEach}
-use Rattle.commands.specs.Printed.{PrintsFront}
+use Rattle.commands.specs.Printed.{HasFailed, PrintsFront}
 use Rattle.commands.specs.declared.refusal.CommandRefusal.{CommandRefusal}
 use Rattle.commands.specs.declared.refusal.CommandRefusal.TheVariants.{Io}
 
@@ -45,12 +45,13 @@ module _ {C : Type 0} (door left : Door C) (entrance : ListenOn) (printed printe
     pub listens : Does door left [] (deed.Listens bound)
     pub prints : Appends printed printed_new (line_of bound)
 
-  -- so it was, but the output failed, and a beginning of the line was printed, or all of it
-  pub record LetsInUnsaid : Type 0 where
+  -- so it was, but a call of the output failed, and a beginning of the line was printed, or all of it
+  pub record LetsInUnsaid (writes writes_new : Writes) : Type 0 where
     pub bound : ListenOn
     pub binds : IsBoundFor entrance bound
     pub listens : Does door left [] (deed.Listens bound)
     pub prints : PrintsFront printed printed_new (line_of bound)
+    pub cause : HasFailed writes writes_new
 
   -- no peer was let in, and nothing was printed
   pub record LetsNobodyIn : Type 0 where
@@ -58,20 +59,22 @@ module _ {C : Type 0} (door left : Door C) (entrance : ListenOn) (printed printe
     pub silent : printed_new ≡ printed
 
   -- where this was the result, peers were let in and that was printed, or one of both was not
-  abbrev pub Opens : Result (Unit {0}) CommandRefusal → Type 0
-  Opens (Ok u) = LetsIn
-  Opens (Err e) = (e ≡ Io) × (LetsInUnsaid ⊎ LetsNobodyIn)
+  abbrev pub Opens : Writes → Writes → Result (Unit {0}) CommandRefusal → Type 0
+  Opens writes writes_new (Ok u) = LetsIn
+  Opens writes writes_new (Err e) = (e ≡ Io) × (LetsInUnsaid writes writes_new ⊎ LetsNobodyIn)
 
 -- nothing was served: no peer was let in, or that was not printed whole; nobody was taken, and the store stays
 pub record ServesNobody {C S : Type 0} (old new : S) (entrance : ListenOn) (printed printed_new : Option (List ℕ))
-    (door left : Door C) (e : CommandRefusal) : Type 0 where
+    (writes writes_new : Writes) (door left : Door C) (e : CommandRefusal) : Type 0 where
   pub is_io : e ≡ Io
   pub same : new ≡ old
-  pub opens : LetsInUnsaid door left entrance printed printed_new ⊎ LetsNobodyIn door left entrance printed printed_new
+  pub opens : LetsInUnsaid door left entrance printed printed_new writes writes_new
+      ⊎ LetsNobodyIn door left entrance printed printed_new
 
 module _ {P O : Type 0} (heard : P → Account × Reads) (written : P → Option (List ℕ) × Writes)
     (is_new : Caller P O → Type 0) {S : Type 0} (shown : S → Shown) (old new : S) (entrance : ListenOn)
-    (connections : ℕ) (printed printed_new : Option (List ℕ)) (door left : Door (Caller P O)) where
+    (connections : ℕ) (printed printed_new : Option (List ℕ)) (writes writes_new : Writes)
+    (door left : Door (Caller P O)) where
   -- Peers were let in, and as many connections of peers as are to be served were. The store went through at most as
   -- many requests.
   pub record AnswersPeers : Type 0 where
@@ -83,12 +86,12 @@ module _ {P O : Type 0} (heard : P → Account × Reads) (written : P → Option
   -- so it was, or nothing was served
   abbrev pub AnswersIfOpen : Result (Unit {0}) CommandRefusal → Type 0
   AnswersIfOpen (Ok u) = AnswersPeers
-  AnswersIfOpen (Err e) = ServesNobody old new entrance printed printed_new door left e
+  AnswersIfOpen (Err e) = ServesNobody old new entrance printed printed_new writes writes_new door left e
 
 module _ {P O : Type 0} (heeded : O → Account × Reads) (told : O → Option (List ℕ) × Writes)
     (heard : P → Account × Reads) (written : P → Option (List ℕ) × Writes) (is_new : Caller P O → Type 0)
     {S : Type 0} (shown : S → Shown) (made : Made S) (counted : Counted S) (old new : S)
-    (entrance : ListenOn) (connections : ℕ) (printed printed_new : Option (List ℕ)) where
+    (entrance : ListenOn) (connections : ℕ) (printed printed_new : Option (List ℕ)) (writes writes_new : Writes) where
   module _ (since : List ℕ) (door left : Door (Caller P O)) where
     -- Peers were let in, and callers were served: peers, and between them operators, until one of these ended it, or
     -- the connections were used up. Before that, the versions of the store were counted, which only reads it. The store
@@ -106,15 +109,15 @@ module _ {P O : Type 0} (heeded : O → Account × Reads) (told : O → Option (
     -- so it was, or nothing was served
     abbrev pub ServesIfOpen : Result (Unit {0}) CommandRefusal → Type 0
     ServesIfOpen (Ok u) = ServesCallers
-    ServesIfOpen (Err e) = ServesNobody old new entrance printed printed_new door left e
+    ServesIfOpen (Err e) = ServesNobody old new entrance printed printed_new writes writes_new door left e
 
   module _ (times times_new : List (Option (List ℕ))) (door left : Door (Caller P O)) (result : Result (Unit {0}) CommandRefusal)
     where
       -- without operators: peers were served or not, and then all was closed
       pub record Listens : Type 0 where
         pub ended : Door (Caller P O)
-        pub serves : AnswersIfOpen heard written is_new shown old new entrance connections printed printed_new door ended
-            result
+        pub serves : AnswersIfOpen heard written is_new shown old new entrance connections printed printed_new
+            writes writes_new door ended result
         pub closes : Does ended left [] deed.Closed
 
       -- The calendar was read once, and showed a time, the socket at this path was made for operators, and callers were served or
@@ -130,13 +133,14 @@ module _ {P O : Type 0} (heeded : O → Account × Reads) (told : O → Option (
         pub removes : Does ended removed path deed.Removed
         pub closes : Does removed left [] deed.Closed
 
-      -- The clock can't be read, and nothing was opened; or the socket at this path can't be made, and nothing else was
-      -- opened. Nothing was printed, and the store stays as it was.
+      -- The calendar was read once. It showed no time, and nothing was opened; or it showed one, the socket at this path
+      -- can't be made, and nothing else was opened. Nothing was printed, and the store stays as it was.
       pub record ListensToNobody (path : List ℕ) : Type 0 where
         pub is_io : result ≡ Err Io
         pub same : new ≡ old
         pub silent : printed_new ≡ printed
-        pub opens : (left ≡ door) ⊎ Does door left path deed.Unmade
+        pub opens : (Shows times times_new None × (left ≡ door))
+            ⊎ ((since : List ℕ) × Shows times times_new (Some since) × Does door left path deed.Unmade)
 
       -- serving without a socket of operators, or with one
       abbrev pub ListensAs : Option (List ℕ) → Type 0

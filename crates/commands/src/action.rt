@@ -153,6 +153,31 @@ pub fn act_on<
           written = O.contents output.new;
         })
         result action.now }
+    // A `serve` that fails after it let peers in does so because a call of the output failed.
+    ensures serves { spec.ServesFor
+        (record {
+          heeded = both Q.came Q.reads;
+          told = both Q.written Q.writes;
+          heard = both P.came P.reads;
+          written = both P.written P.writes;
+          is_new = N.is_new;
+          door = spec.of_entrances (both N.waiting N.history);
+          read = spec.of_files F.history;
+        })
+        S.shown K.made K.counted
+        (record {
+          store = shelves.old;
+          outside = outside.old;
+          came = I.account input.old;
+          written = O.contents output.old;
+        })
+        (record {
+          store = shelves.new;
+          outside = outside.new;
+          came = I.account input.new;
+          written = O.contents output.new;
+        })
+        (O.writes output.old) (O.writes output.new) result action.now }
     // Only `serve` writes to `errors`, and only notices.
     ensures notes { spec.WritesErrors action.now (E.contents errors.old) (E.contents errors.new) }
     // A key is made of what `random` gave, and no other action draws from it.

@@ -6,6 +6,7 @@ ghost use Rattle.std.specs.Prelude.{◌≡◌, [], option_copied, OnOk};
 ghost use Rattle.control.specs.Copying.{GoesOnRead, IsOnlyRead};
 ghost use Rattle.control.specs.Notices.{WritesNotices};
 ghost use Rattle.control.specs.Visits.{EndsEach};
+ghost use Rattle.engine.specs.Causes.{FailsWith};
 ghost use Rattle.socket.specs.Connections.{both};
 ghost use Rattle.commands.specs.Printed.{PrintsText};
 ghost use Rattle.commands.specs.Serve.{AnswersIfOpen, Listens, ListensAs, ListensToBoth, ListensToNobody};
@@ -60,7 +61,7 @@ pub fn serve<
 ) -> Result<(), CommandRefusal>
     ensures serves { ListensAs (both Q.came Q.reads) (both Q.written Q.writes)
         (both P.came P.reads) (both P.written P.writes) N.is_new S.shown K.made K.counted shelves.old shelves.new
-        entrance connections (O.contents output.old) (O.contents output.new)
+        entrance connections (O.contents output.old) (O.contents output.new) (O.writes output.old) (O.writes output.new)
         (D.shown calendar.old) (D.shown calendar.new)
         (both N.waiting N.history entrances.old) (both N.waiting N.history entrances.new)
         result (option_copied control.entry) }
@@ -112,6 +113,7 @@ fn answer_peers<C: Clock, S: Keyring, P: Peer + Drop, Q, N: Entrances<P, Q>, O: 
 ) -> Result<(), CommandRefusal>
     ensures serves { AnswersIfOpen (both P.came P.reads) (both P.written P.writes) N.is_new S.shown
         shelves.old shelves.new entrance connections (O.contents output.old) (O.contents output.new)
+        (O.writes output.old) (O.writes output.new)
         (both N.waiting N.history entrances.old) (both N.waiting N.history entrances.new) result }
     ensures flushed { OnOk result ((O.writes output.new).unflushed ≡ []) }
 {
@@ -149,7 +151,7 @@ fn serve_operators<
 ) -> Result<(), CommandRefusal>
     ensures serves { ListensAs (both Q.came Q.reads) (both Q.written Q.writes)
         (both P.came P.reads) (both P.written P.writes) N.is_new S.shown K.made K.counted shelves.old shelves.new
-        entrance connections (O.contents output.old) (O.contents output.new)
+        entrance connections (O.contents output.old) (O.contents output.new) (O.writes output.old) (O.writes output.new)
         (D.shown calendar.old) (D.shown calendar.new)
         (both N.waiting N.history entrances.old) (both N.waiting N.history entrances.new)
         result (Some path.now) }
@@ -210,7 +212,8 @@ fn serve_callers<
 ) -> Result<(), CommandRefusal>
     ensures serves { ServesIfOpen (both Q.came Q.reads) (both Q.written Q.writes)
         (both P.came P.reads) (both P.written P.writes) N.is_new S.shown K.made K.counted shelves.old shelves.new
-        entrance connections (O.contents output.old) (O.contents output.new) since
+        entrance connections (O.contents output.old) (O.contents output.new)
+        (O.writes output.old) (O.writes output.new) since
         (both N.waiting N.history entrances.old) (both N.waiting N.history entrances.new) result }
     ensures flushed { OnOk result ((O.writes output.new).unflushed ≡ []) }
     ensures notes { WritesNotices (E.contents errors.old) (E.contents errors.new) }
@@ -297,7 +300,7 @@ fn listen<P, Q, N: Entrances<P, Q>, O: Tell>(
     output: &mut O,
 ) -> Result<(), CommandRefusal>
     ensures opens { Opens (both N.waiting N.history entrances.old) (both N.waiting N.history entrances.new)
-        entrance (O.contents output.old) (O.contents output.new) result }
+        entrance (O.contents output.old) (O.contents output.new) (O.writes output.old) (O.writes output.new) result }
     ensures flushed { OnOk result ((O.writes output.new).unflushed ≡ []) }
 {
     let Ok(bound) = entrances.listen(entrance) else {
@@ -312,6 +315,8 @@ fn listen<P, Q, N: Entrances<P, Q>, O: Tell>(
 /// Prints the line of where peers come in.
 fn announce<O: Tell>(bound: ListenOn, output: &mut O) -> Result<(), Io>
     ensures prints { PrintsText (O.contents output.old) (O.contents output.new) (line_of bound) result }
+    // It fails only if a call of the output failed.
+    ensures fails { FailsWith (O.writes output.old).failed (O.writes output.new).failed result }
     ensures flushed { OnOk result ((O.writes output.new).unflushed ≡ []) }
 {
     match bound {
@@ -323,6 +328,7 @@ fn announce<O: Tell>(bound: ListenOn, output: &mut O) -> Result<(), Io>
 /// Prints the line with the port.
 fn print_port<O: Tell>(port: u16, output: &mut O) -> Result<(), Io>
     ensures prints { PrintsText (O.contents output.old) (O.contents output.new) (port_line port) result }
+    ensures fails { FailsWith (O.writes output.old).failed (O.writes output.new).failed result }
     ensures flushed { OnOk result ((O.writes output.new).unflushed ≡ []) }
 {
     let mut digits = Buffer::new();

@@ -1,9 +1,25 @@
 use Rattle.std.proofs.Common.{refl}
-use Rattle.commands.proofs.Actions.{any_action, unwritten}
+use Rattle.commands.proofs.Actions.{any_action, serves_none, unwritten}
 use Rattle.commands.proofs.action.act_on.Goals as goal
 
 pub returns-in-Serve-clause-acts : goal.returns-in-Serve-clause-acts
 returns-in-Serve-clause-acts g c =
+    let serves = rw c.requires.unshown at c.serve.ensures.serves in
+    rw c.in-Serve.is (
+      g.O.Tell.writes c.args.output.now,
+      g.O.Tell.writes c.serve.new.output,
+      record {
+        times = g.D.WallClock.shown c.serve.new.calendar;
+        ended = c.serve.result;
+        serves = serves;
+        told = c.acceptance-in-Serve.ensures;
+        came = refl;
+        read = refl;
+      },
+    )
+
+pub returns-in-Serve-clause-serves : goal.returns-in-Serve-clause-serves
+returns-in-Serve-clause-serves g c =
     let serves = rw c.requires.unshown at c.serve.ensures.serves in
     rw c.in-Serve.is (record {
       times = g.D.WallClock.shown c.serve.new.calendar;
@@ -20,3 +36,6 @@ returns-in_default-clause-acts g c = any_action _ _ _ _ _ _ _ c.args.action.now 
 pub returns-in_default-clause-notes : goal.returns-in_default-clause-notes
 returns-in_default-clause-notes g c =
     unwritten c.args.action.now (g.E.Write.contents c.args.errors.now) c.in_default.not-Serve
+
+pub returns-in_default-clause-serves : goal.returns-in_default-clause-serves
+returns-in_default-clause-serves g c = serves_none _ _ _ _ _ _ _ _ _ c.args.action.now c.in_default.not-Serve

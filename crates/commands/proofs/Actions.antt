@@ -1,14 +1,17 @@
 -- What an action does, and why it failed.
 use Rattle.std.specs.Borrow.{Bor}
-use Rattle.std.proofs.Common.{◌≡◌, ℕ, List, Bool, Option, Result, Ok, Err, IfErr, refl, subst, sym}
+use Rattle.std.proofs.Common.{◌≡◌, ℕ, List, Bool, Option, Result, Ok, Err, IfErr, ap, refl, subst, sym, ◌∙◌}
 use Rattle.histories.specs.Calls.{Writes}
 use Rattle.socket.specs.declared.deed.ListenOn.{ListenOn}
 use Rattle.world.specs.Store.{Shown}
-use Rattle.commands.specs.Action.{Acts, ActsAlone, Moment, ServesFor, Views, WritesErrors, acceptance}
+use Rattle.orders.specs.declared.command.RegistryCommand.{RegistryCommand}
+use Rattle.commands.specs.Action.{Acts, ActsAlone, Moment, NeverIo, ServesFor, Views, WritesErrors, acceptance}
+use Rattle.commands.specs.Ending.{Registers, RevokesNamed}
 use Rattle.commands.specs.Serve.{Counted, Made}
 use Rattle.commands.specs.declared.action.Action.{Action}
 use Rattle.commands.specs.declared.action.Action.TheVariants as action
 use Rattle.commands.specs.declared.refusal.CommandRefusal.{CommandRefusal}
+use Rattle.commands.proofs.NewKeys.{never_io, never_registers}
 
 -- what an action that is no `serve` does is what an action does
 pub any_action : {S N P O : Type 0} (views : Views N P O) (shown : S → Shown) (made : Made S) (counted : Counted S)
@@ -44,3 +47,15 @@ because (Err refusal) why has = has
 pub not_accepted : (ended : Result (Unit {0}) CommandRefusal) (result : Result Bool CommandRefusal)
     (why : CommandRefusal → Type 0) → result ≡ acceptance ended → IfErr ended why → IfErr result why
 not_accepted ended result why is has = subst (λ r. IfErr r why) (sym is) (because ended why has)
+
+-- a registry command that failed did not do so with `Io`
+pub registry_cause : (old new : Shown) (order : RegistryCommand) (ended : Result (Unit {0}) CommandRefusal)
+    → Registers old new order ended → NeverIo ended
+registry_cause old new order (Ok u) registers = tt
+registry_cause old new order (Err refusal) registers = never_registers old new order refusal registers
+
+pub revoked_cause : (old new : Shown) (fingerprint : List ℕ) (ended : Result (Unit {0}) CommandRefusal)
+    → RevokesNamed old new fingerprint ended → NeverIo ended
+revoked_cause old new fingerprint (Ok u) revokes = tt
+revoked_cause old new fingerprint (Err refusal) revokes =
+    λ is. never_io revokes.told (sym (ap Err is) ∙ revokes.ends)

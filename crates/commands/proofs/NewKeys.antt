@@ -38,7 +38,7 @@ module _ {R : Type 0} (registers : R → R → RegistryCommand → Result (Unit 
 
 -- ---- why a command ends with `Io`
 
-never_io : (told : Result RegistryReply StoreFault) → Err Io ≡ ending told → ⊥
+pub never_io : (told : Result RegistryReply StoreFault) → Err Io ≡ ending told → ⊥
 never_io (Ok registered.Done) is = cc
 never_io (Ok registered.Name) is = cc
 never_io (Ok registered.Taken) is = cc

@@ -1,9 +1,10 @@
 -- What an action does on a store.
 use Rattle.std.specs.Borrow.{Bor}
-use Rattle.std.specs.Prelude.{ℕ, List, [], ◌≡◌, true, Bool, Option, option_copied, Result, Ok, Err}
+use Rattle.std.specs.Prelude.{ℕ, List, [], ◌≡◌, true, Bool, Option, option_copied, Result, Ok, Err, IfErr, OnErr}
 use Rattle.histories.specs.Account.{Account}
 use Rattle.histories.specs.Calls.{Reads, Writes}
 use Rattle.control.specs.Notices.{WritesNotices}
+use Rattle.engine.specs.Served.{ServesAllHeard}
 use Rattle.socket.specs.History.{Door}
 use Rattle.socket.specs.declared.callers.Caller.{Caller}
 use Rattle.socket.specs.declared.deed.ListenOn.{ListenOn}
@@ -12,15 +13,16 @@ use Rattle.world.specs.declared.entry.Right.{Right}
 use Rattle.orders.specs.declared.command.RegistryCommand.{RegistryCommand}
 use Rattle.commands.specs.Ending.{Registers, RevokesNamed}
 use Rattle.commands.specs.ImportFile.{ImportsFile}
-use Rattle.commands.specs.NewKey.{AddsNew}
-use Rattle.commands.specs.Opening.{AnswersAll}
-use Rattle.commands.specs.Printed.{FailsUnprinted}
+use Rattle.commands.specs.NewKey.{AddsNew, HasNoKey}
+use Rattle.commands.specs.Opening.{AnswersAll, Breaks}
+use Rattle.commands.specs.Printed.{FailsByOutput, FailsEarlyOrByOutput, FailsUnprinted}
 use Rattle.commands.specs.Publish.{asked_by, PublishesFiles}
 use Rattle.commands.specs.RandomBytes.{Drawn, no_draws}
 use Rattle.commands.specs.Report.{PrintsCatalogOf, PrintsInventory, PrintsList, PrintsRequirements}
 use Rattle.commands.specs.Serve.{Made, Counted, ListensAs}
 use Rattle.commands.specs.Sources.{FileDone}
 use Rattle.commands.specs.declared.refusal.CommandRefusal.{CommandRefusal}
+use Rattle.commands.specs.declared.refusal.CommandRefusal.TheVariants.{Io}
 use Rattle.commands.specs.declared.action.Action.{Action}
 use Rattle.commands.specs.declared.action.Action.TheVariants as action
 use Rattle.commands.specs.declared.action.Outside.{Outside}
@@ -183,3 +185,42 @@ abbrev pub PrintsKeyFor : Action → Option (List ℕ) → Option (List ℕ) →
 PrintsKeyFor (action.AddNew shelf right) written written_new writes writes_new result =
     FailsUnprinted written written_new writes writes_new result
 PrintsKeyFor other written written_new writes writes_new result = Unit {0}
+
+-- the calls of the input and of the output, and the bytes that were drawn, at a moment
+pub record Calls : Type 0 where
+  pub reads : Reads
+  pub writes : Writes
+  pub drawn : Drawn
+
+-- a command does not end with `Io`
+abbrev pub NeverIo : {T : Type 0} → Result T CommandRefusal → Type 0
+NeverIo result = IfErr result (λ e. ¬ (e ≡ Io))
+
+module _ {S N : Type 0} (shown : S → Shown) (old new : Moment S N) (calls calls_new : Calls)
+    (result : Result Bool CommandRefusal) where
+  -- an action that answers the requests of the input failed because a stream failed
+  abbrev pub FailsByStream : Type 0
+  FailsByStream = OnErr result (Breaks (λ failure. ServesAllHeard (shown old.store) (shown new.store) old.came new.came
+      old.written new.written (Err failure)) calls.reads calls_new.reads calls.writes calls_new.writes)
+
+  -- a publish or an import ended with `Io` because its output failed, or before it did anything
+  abbrev pub FailsEarly : Type 0
+  FailsEarly =
+      FailsEarlyOrByOutput old.store new.store old.written new.written calls.writes calls_new.writes result
+
+  -- Why an action ended with `Io`. One that prints what it reads did so because its output failed. A registry command
+  -- never does. Of a `serve`, `ServesFor` says why it failed.
+  abbrev pub CauseOf : Action → Type 0
+  CauseOf (action.AddNew shelf right) =
+      IfErr result (λ e. e ≡ Io → HasNoKey calls.drawn calls_new.drawn calls.writes calls_new.writes)
+  CauseOf (action.Publish words files) = FailsEarly
+  CauseOf (action.Import key list) = FailsEarly
+  CauseOf (action.Inventory key) = FailsByOutput calls.writes calls_new.writes result
+  CauseOf (action.Catalog key) = FailsByOutput calls.writes calls_new.writes result
+  CauseOf (action.Requires version) = FailsByOutput calls.writes calls_new.writes result
+  CauseOf (action.List listing) = FailsByOutput calls.writes calls_new.writes result
+  CauseOf action.Answer = FailsByStream
+  CauseOf (action.Serve entrance connections control) = Unit {0}
+  CauseOf action.Open = NeverIo result
+  CauseOf (action.Register command) = NeverIo result
+  CauseOf (action.RevokeByFingerprint fingerprint) = NeverIo result

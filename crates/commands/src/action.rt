@@ -186,6 +186,23 @@ pub fn act_on<
     // If the making of a key fails, nothing is printed, unless a call of the output failed.
     ensures whole { spec.PrintsKeyFor action.now (O.contents output.old) (O.contents output.new)
         (O.writes output.old) (O.writes output.new) result }
+    // It fails with `Io` only because a call of its streams failed, no key could be made, or a file could not be read.
+    ensures cause { spec.CauseOf S.shown
+        (record {
+          store = shelves.old;
+          outside = outside.old;
+          came = I.account input.old;
+          written = O.contents output.old;
+        })
+        (record {
+          store = shelves.new;
+          outside = outside.new;
+          came = I.account input.new;
+          written = O.contents output.new;
+        })
+        (record { reads = I.reads input.old; writes = O.writes output.old; drawn = B.drawn random.old })
+        (record { reads = I.reads input.new; writes = O.writes output.new; drawn = B.drawn random.new })
+        result action.now }
 {
     match action {
         Action::Serve {
@@ -262,6 +279,22 @@ fn act_alone<
         (O.contents output.old) (O.contents output.new) result }
     ensures whole { spec.PrintsKeyFor action.now (O.contents output.old) (O.contents output.new)
         (O.writes output.old) (O.writes output.new) result }
+    ensures cause { spec.CauseOf S.shown
+        (record {
+          store = shelves.old;
+          outside = outside.old;
+          came = I.account input.old;
+          written = O.contents output.old;
+        })
+        (record {
+          store = shelves.new;
+          outside = outside.new;
+          came = I.account input.new;
+          written = O.contents output.new;
+        })
+        (record { reads = I.reads input.old; writes = O.writes output.old; drawn = B.drawn random.old })
+        (record { reads = I.reads input.new; writes = O.writes output.new; drawn = B.drawn random.new })
+        result action.now }
 {
     match action {
         Action::Open => Ok(true),

@@ -12,7 +12,7 @@ returns-in-Serve-clause-acts g c =
         times = g.D.WallClock.shown c.serve.new.calendar;
         ended = c.serve.result;
         serves = serves;
-        told = c.acceptance-in-Serve.ensures;
+        told = c.acceptance.ensures;
         came = refl;
         read = refl;
       },
@@ -25,7 +25,7 @@ returns-in-Serve-clause-serves g c =
       times = g.D.WallClock.shown c.serve.new.calendar;
       ended = c.serve.result;
       serves = serves;
-      told = c.acceptance-in-Serve.ensures;
+      told = c.acceptance.ensures;
       came = refl;
       read = refl;
     })

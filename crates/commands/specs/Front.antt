@@ -1,6 +1,7 @@
 -- The first bytes of a reader, and how reading them ended.
 use Rattle.std.specs.Prelude.{ℕ, ◌≡◌, ◌≤◌, ◌+◌, ◌++◌, IsTrue, List, [], length, Bool, true, false}
 use Rattle.histories.specs.Account.{Account, Gives}
+use Rattle.histories.specs.Calls.{Reads}
 use Rattle.commands.specs.declared.front.Front.{Front}
 use Rattle.commands.specs.declared.front.ReadEnd.{ReadEnd}
 use Rattle.commands.specs.declared.front.ReadEnd.TheVariants.{Whole, Full, Broken}
@@ -38,3 +39,8 @@ module _ (old new : Account) where
     pub same : got_new ≡ got
     pub lost : List ℕ
     pub gives : Gives old new lost
+
+-- Each read that began gave some of the bytes that there are more of, or failed, but for so many.
+abbrev pub ReadsFew : ℕ → Reads → Reads → ℕ → ℕ → Type 0
+ReadsFew idle reads reads_new len len_new =
+    reads_new.begun + (len + reads.failed) ≤ reads.begun + (len_new + reads_new.failed) + idle

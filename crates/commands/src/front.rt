@@ -1,5 +1,5 @@
 //! The first bytes of a reader, and how reading them ended.
-ghost use Rattle.std.specs.Prelude.{◌≡◌, ◌<◌, ◌≤◌, ◌+◌, ◌^◌, [], IfOk, OnErr, length};
+ghost use Rattle.std.specs.Prelude.{◌≡◌, ◌<◌, ◌≤◌, ◌+◌, ◌^◌, [], false, IfOk, OnErr, length};
 ghost use Rattle.commands.specs.Front as spec;
 
 use crate::sources::SourceFault;
@@ -45,7 +45,9 @@ pub struct Front {
 /// Returns what came, also if a read fails or memory runs out.
 pub(crate) fn hear_front<R: Hear>(alloc: Global, reader: &mut R, most: u64) -> Front
     requires { most < 2 ^ 63 }
-    ensures { spec.HearsFront (R.account reader.old) (R.account reader.new) most result }
+    ensures hears { spec.HearsFront (R.account reader.old) (R.account reader.new) most result }
+    // Each read gave some bytes or failed, but for one.
+    ensures idle { spec.ReadsFew 1 (R.reads reader.old) (R.reads reader.new) 0 (length result.bytes) }
 {
     let mut got = Vec::new(alloc);
     let end = hear_to_end(reader, &mut got, most);
@@ -60,7 +62,10 @@ pub(crate) fn hear_front<R: Hear>(alloc: Global, reader: &mut R, most: u64) -> F
 fn hear_to_end<R: Hear>(reader: &mut R, got: &mut Vec<u8>, most: u64) -> ReadEnd
     requires few { most < 2 ^ 63 }
     requires none { got.old.items ≡ [] }
-    ensures { spec.Hears (R.account reader.old) (R.account reader.new) most got.new.items result }
+    ensures hears { spec.Hears (R.account reader.old) (R.account reader.new) most got.new.items result }
+    // Each read gave some bytes or failed, but for one.
+    ensures idle { spec.ReadsFew 1 (R.reads reader.old) (R.reads reader.new) (length got.old.items)
+        (length got.new.items) }
 {
     let mut chunk = [0; PIECE];
     for _ in 0..u64::MAX {
@@ -89,6 +94,11 @@ fn hear_more<R: Hear>(
     ensures hears { IfOk result (λ over.
         spec.HearsOn (R.account reader.old) (R.account reader.new) got.old.items got.new.items over) }
     ensures few { IfOk result (λ _. length got.new.items ≤ length got.old.items + length chunk.old) }
+    // It reads on only behind some bytes, or a read that was interrupted.
+    ensures on { IfOk result (λ over. over ≡ false → spec.ReadsFew 0 (R.reads reader.old) (R.reads reader.new)
+        (length got.old.items) (length got.new.items)) }
+    ensures idle { spec.ReadsFew 1 (R.reads reader.old) (R.reads reader.new) (length got.old.items)
+        (length got.new.items) }
     ensures fails { OnErr result
         (spec.LosesAll (R.account reader.old) (R.account reader.new) got.old.items got.new.items) }
 {

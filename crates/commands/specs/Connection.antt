@@ -5,6 +5,8 @@ use Rattle.histories.specs.Calls.{Reads, no_reads}
 use Rattle.engine.specs.Causes.{IsUnreadable, most_reads}
 use Rattle.engine.specs.Written.{IsBeginning}
 use Rattle.network.specs.History.{Calls, CallsMeanwhile, Done, deeds_between}
+use Rattle.network.specs.declared.servers.Wait.{Wait}
+use Rattle.network.specs.declared.servers.Wait.TheVariants.{Second, Minute, Unbounded}
 use Rattle.orders.specs.Order.{HasNoLine, IsLineOf, Ordered, Stop, Ping, ListOf, Copy, Catalog, RevokeByFingerprint}
 use Rattle.orders.specs.Order.{Registry}
 use Rattle.control.specs.Asking.{HasNoBound, IsNoReply, IsReplyTo}
@@ -43,6 +45,13 @@ Exchanges o p (Err untold.Io) =
     ⊎ (IsLineOf p.sent o × IsUnreadable most_reads no_reads p.reads)
 Exchanges o p (Err untold.NoReply) = IsLineOf p.sent o × IsNoReply o p.is_over p.came
 Exchanges o p (Err untold.ReplyMemory) = IsLineOf p.sent o × HasNoBound o
+
+-- How long each read of the reply to an order waits: that to a catalog as long as it takes, and that to a copy too, or a
+-- second if the command then does something else and reads on.
+abbrev pub IsWaitFor : Ordered → Wait → Type 0
+IsWaitFor (Copy to) wait = (wait ≡ Second) ⊎ (wait ≡ Unbounded)
+IsWaitFor (Catalog key) wait = wait ≡ Unbounded
+IsWaitFor other wait = wait ≡ Minute
 
 -- the server was asked for its health
 abbrev pub OnlyPings : Passed → Type 0

@@ -3,7 +3,7 @@ ghost use Rattle.std.specs.Prelude.{◌≡◌, ◌⊎◌, [], IfErr, MatchResult
 ghost use Rattle.orders.specs.Order.{ordered};
 ghost use Rattle.control.specs.Asking.{OrderGets};
 ghost use Rattle.network.specs.History.{Fails};
-ghost use Rattle.commands.specs.Connection.{Exchanges, IsAll, Meets, PingsIf};
+ghost use Rattle.commands.specs.Connection.{Exchanges, IsAll, IsWaitFor, Meets, PingsIf};
 ghost use Rattle.commands.specs.Order as spec;
 ghost use Rattle.commands.specs.Printed.{HasFailed};
 ghost use Rattle.commands.specs.SentOrder.{Ends, IsFlushed};
@@ -137,7 +137,9 @@ fn exchange_at<R: Hear, W: Tell, V: Servers<R, W>>(
 
 /// How long each read of a reply waits: for a copy or a catalog as long as it takes, but a second if the progress of
 /// the copy is shown.
-fn wait_for(order: &Order, line: &Option<StderrLine<'_>>) -> Wait {
+fn wait_for(order: &Order, line: &Option<StderrLine<'_>>) -> Wait
+    ensures { IsWaitFor (ordered order.now) result }
+{
     match (order, line) {
         (Order::Copy(_), Some(_)) => Wait::Second,
         (Order::Copy(_) | Order::Catalog(_), _) => Wait::Unbounded,

@@ -1,14 +1,20 @@
--- A store whose versions are counted before it is served.
-use Rattle.std.proofs.Common.{ℕ, List, [], ◌∷◌, None, Result, Ok, Err, IfOk, refl}
+-- A store whose versions are counted before it is served, and what is written of the room for orders.
+use Rattle.std.proofs.Common.{◌≡◌, ℕ, List, [], ◌∷◌, Option, None, Result, Ok, Err, IfOk, false, inl, inr, refl}
 use Rattle.std.proofs.lemmas.List.Elements.{All-cons}
+use Rattle.histories.specs.Calls.{Writes}
 use Rattle.world.specs.Store.{Shown}
 use Rattle.world.specs.declared.registry.StoreFault.{StoreFault}
 use Rattle.control.specs.Copying.{Making, AllRead, Counted, GoesOnRead, IsOnlyRead, TellsSince}
 use Rattle.control.specs.Health.{tally_of}
 use Rattle.control.specs.declared.health.Metrics.{Metrics}
 use Rattle.control.specs.declared.health.Health.{Health}
+use Rattle.control.specs.Noted.{Noted, noted_line}
+use Rattle.control.specs.Notices.{Occasion, Reserved, WritesLines, line_of, room_told}
+use Rattle.control.specs.Traces.{IsLineFor}
+use Rattle.control.proofs.NoticeLemmas.{written_so}
 use Rattle.control.proofs.StepLemmas.{steps_more}
 use Rattle.control.proofs.TaskLemmas.{tasks_read}
+use Rattle.commands.specs.Serve.{AreOfRoom}
 
 module _ {S : Type 0} (shown : S → Shown) (made : S → S → Making → Type 0)
     (counted : S → S → ℕ → Type 0) (old mid new : S) (since : List ℕ) (most : ℕ)
@@ -47,3 +53,17 @@ module _ {S : Type 0} (shown : S → Shown) (made : S → S → Making → Type 
         all,
       )) refl
   counted_first (Err fault) came = behind (Err fault) (λ h w stands all. all) tt
+
+-- ---- the room for orders
+
+line_for : (about : Occasion) (noted : Noted) → IfOk noted (λ notice. notice.text ≡ line_of about)
+    → IsLineFor about (noted_line noted)
+line_for about (Ok notice) is = inl is
+line_for about (Err none) is = inr refl
+
+pub room_lacks : (noted : Noted) (a b : Option (List ℕ) × Writes)
+    → IfOk noted (λ notice. notice.text ≡ line_of (Reserved (room_told false)))
+    → WritesLines (λ lines. lines ≡ noted_line noted ∷ []) a b → WritesLines (AreOfRoom false) a b
+room_lacks noted a b is written =
+    written_so (λ lines. lines ≡ noted_line noted ∷ []) (AreOfRoom false) a b
+    (λ lines so. (noted_line noted, so, line_for (Reserved (room_told false)) noted is)) written

@@ -1,5 +1,6 @@
 -- Serving connections from a store, and orders between them, by the history of who came in.
-use Rattle.std.specs.Prelude.{ℕ, ◌≡◌, ◌++◌, ◌⊎◌, List, [], codes, decimal, Option, Some, None, Result, Ok, Err}
+use Rattle.std.specs.Prelude.{ℕ, ◌≡◌, ◌++◌, ◌⊎◌, Bool, true, false, List, [], ◌∷◌, codes, decimal, Option, Some, None}
+use Rattle.std.specs.Prelude.{Result, Ok, Err}
 use Rattle.std.specs.Io.KnownBytes.{Appends}
 use Rattle.histories.specs.Account.{Account}
 use Rattle.histories.specs.Calls.{Reads, Writes}
@@ -13,6 +14,8 @@ use Rattle.socket.specs.declared.deed.ListenOn.{ListenOn}
 use Rattle.socket.specs.declared.deed.ListenOn.TheVariants.{Port, Input}
 use Rattle.control.specs.WallClock.{Shows}
 use Rattle.control.specs.Copying.{Making, GoesOnRead, IsOnlyRead}
+use Rattle.control.specs.Notices.{Reserved, room_told}
+use Rattle.control.specs.Traces.{IsLineFor}
 use Rattle.control.specs.Visits.{EndsEach}
 use Rattle.commands.specs.Printed.{HasFailed, PrintsFront}
 use Rattle.commands.specs.declared.refusal.CommandRefusal.{CommandRefusal}
@@ -26,6 +29,11 @@ port_line port = codes "listening on 127.0.0.1:" ++ (decimal port ++ codes "\n")
 abbrev pub line_of : ListenOn → List ℕ
 line_of (Port port) = port_line port
 line_of Input = codes "listening on standard input\n"
+
+-- what is written of the room that is kept for orders: nothing if all of it is there, and otherwise a line that says so
+abbrev pub AreOfRoom : Bool → List (List ℕ) → Type 0
+AreOfRoom true lines = lines ≡ []
+AreOfRoom false lines = (line : List ℕ) × (lines ≡ line ∷ []) × IsLineFor (Reserved (room_told false)) line
 
 -- what is made of a store: a relation of it before and after that, and of what was made
 abbrev pub Made : Type 0 → Type 1

@@ -4,12 +4,12 @@
 //! it, and nowhere else, and takes nobody else.
 ghost use Rattle.std.specs.Prelude.{◌≡◌, [], option_copied, OnOk};
 ghost use Rattle.control.specs.Copying.{GoesOnRead, IsOnlyRead};
-ghost use Rattle.control.specs.Notices.{WritesNotices};
+ghost use Rattle.control.specs.Notices.{WritesLines, WritesNotices};
 ghost use Rattle.control.specs.Visits.{EndsEach};
 ghost use Rattle.engine.specs.Causes.{FailsWith};
 ghost use Rattle.socket.specs.Connections.{both};
 ghost use Rattle.commands.specs.Printed.{PrintsText};
-ghost use Rattle.commands.specs.Serve.{AnswersIfOpen, Listens, ListensAs, ListensToBoth, ListensToNobody};
+ghost use Rattle.commands.specs.Serve.{AnswersIfOpen, AreOfRoom, Listens, ListensAs, ListensToBoth, ListensToNobody};
 ghost use Rattle.commands.specs.Serve.{Opens, ServesIfOpen, line_of, port_line};
 
 use crate::printing::{print_both, print_one};
@@ -286,11 +286,15 @@ fn serve_told<
 
 /// Writes a notice if not all of the reserve, the room on the disk for orders, is there.
 fn tell_room<E: Tell>(alloc: Global, has_room: bool, errors: &mut E)
-    ensures { WritesNotices (E.contents errors.old) (E.contents errors.new) }
+    ensures notes { WritesNotices (E.contents errors.old) (E.contents errors.new) }
+    // Its line says so, and is flushed, unless a call to write or to flush failed.
+    ensures tells { WritesLines (AreOfRoom has_room)
+        (both E.contents E.writes errors.old) (both E.contents E.writes errors.new) }
 {
-    if !has_room {
-        tell(reserved(alloc, false), errors);
+    if has_room {
+        return;
     }
+    tell(reserved(alloc, false), errors);
 }
 
 /// Lets peers in, and prints where. If the output fails, a beginning of the line is printed, or all of it.

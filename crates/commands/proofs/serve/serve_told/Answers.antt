@@ -10,5 +10,5 @@ returns-clause-goes g c =
 
 pub returns-clause-notes : goal.returns-clause-notes
 returns-clause-notes g c =
-    notices_more _ _ _ (notices_more _ _ _ (notices_more _ _ _ c.tell.ensures.notes c.tell_room.ensures)
+    notices_more _ _ _ (notices_more _ _ _ (notices_more _ _ _ c.tell.ensures.notes c.tell_room.ensures.notes)
     c.serve_both.ensures.notes) c.tell-2.ensures.notes

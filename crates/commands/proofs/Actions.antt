@@ -22,13 +22,14 @@ any_action views shown made counted old new result _ acts = acts
 
 -- nobody is served
 pub serves_none : {S N P O : Type 0} (views : Views N P O) (shown : S → Shown) (made : Made S) (counted : Counted S)
-    (old new : Moment S N) (writes writes_new : Writes) (result : Result Bool CommandRefusal) (act : Action)
+    (old new : Moment S N) (writes writes_new : Writes) (errors errors_new : Option (List ℕ) × Writes)
+    (result : Result Bool CommandRefusal) (act : Action)
     → ((entrance : ListenOn) (connections : ℕ) (control : Option (Bor (List ℕ)))
     → ¬ (act ≡ action.Serve entrance connections control))
-    → ServesFor views shown made counted old new writes writes_new result act
-serves_none views shown made counted old new writes writes_new result (action.Serve entrance connections control) other =
-    absurd (other entrance connections control refl)
-serves_none views shown made counted old new writes writes_new result _ other = tt
+    → ServesFor views shown made counted old new writes writes_new errors errors_new result act
+serves_none views shown made counted old new writes writes_new errors errors_new result
+    (action.Serve entrance connections control) other = absurd (other entrance connections control refl)
+serves_none views shown made counted old new writes writes_new errors errors_new result _ other = tt
 
 -- it writes nothing to the writer of errors
 pub unwritten : (act : Action) (errors : Option (List ℕ))

@@ -1,5 +1,6 @@
 -- A store whose versions are counted before it is served, and what is written of the room for orders.
-use Rattle.std.proofs.Common.{◌≡◌, ℕ, List, [], ◌∷◌, Option, None, Result, Ok, Err, IfOk, false, inl, inr, refl}
+use Rattle.std.proofs.Common.{◌≡◌, ◌∙◌, ◌++◌, ℕ, List, [], ◌∷◌, Bool, false, Option, None, Result, Ok, Err, IfOk, ap}
+use Rattle.std.proofs.Common.{inl, inr, refl}
 use Rattle.std.proofs.lemmas.List.Elements.{All-cons}
 use Rattle.histories.specs.Calls.{Writes}
 use Rattle.world.specs.Store.{Shown}
@@ -9,12 +10,13 @@ use Rattle.control.specs.Health.{tally_of}
 use Rattle.control.specs.declared.health.Metrics.{Metrics}
 use Rattle.control.specs.declared.health.Health.{Health}
 use Rattle.control.specs.Noted.{Noted, noted_line}
-use Rattle.control.specs.Notices.{Occasion, Reserved, WritesLines, line_of, room_told}
-use Rattle.control.specs.Traces.{IsLineFor}
-use Rattle.control.proofs.NoticeLemmas.{written_so}
+use Rattle.control.specs.Notices.{Ended, Occasion, Reserved, WritesLines, line_of, opened, room_told}
+use Rattle.control.specs.Traces.{HasTraces, IsLineFor}
+use Rattle.control.specs.Visits.{Call}
+use Rattle.control.proofs.NoticeLemmas.{written_so, written_then}
 use Rattle.control.proofs.StepLemmas.{steps_more}
 use Rattle.control.proofs.TaskLemmas.{tasks_read}
-use Rattle.commands.specs.Serve.{AreOfRoom}
+use Rattle.commands.specs.Serve.{AreOfRoom, AreOfServe}
 
 module _ {S : Type 0} (shown : S → Shown) (made : S → S → Making → Type 0)
     (counted : S → S → ℕ → Type 0) (old mid new : S) (since : List ℕ) (most : ℕ)
@@ -67,3 +69,38 @@ pub room_lacks : (noted : Noted) (a b : Option (List ℕ) × Writes)
 room_lacks noted a b is written =
     written_so (λ lines. lines ≡ noted_line noted ∷ []) (AreOfRoom false) a b
     (λ lines so. (noted_line noted, so, line_for (Reserved (room_told false)) noted is)) written
+
+-- ---- the lines of a `serve`
+
+-- each is written behind those before
+pub lines_of_serve : {P O : Type 0} (versions : Result ℕ StoreFault) (has_room : Bool) (calls : List (Call P O))
+    (file file_left : List ℕ) (one two : Noted) (a b c d e : Option (List ℕ) × Writes)
+    → IfOk one (λ notice. notice.text ≡ line_of (opened file versions))
+    → WritesLines (λ lines. lines ≡ noted_line one ∷ []) a b → WritesLines (AreOfRoom has_room) b c
+    → WritesLines (HasTraces calls) c d → IfOk two (λ notice. notice.text ≡ line_of (Ended file_left))
+    → WritesLines (λ lines. lines ≡ noted_line two ∷ []) d e → WritesLines (AreOfServe versions has_room calls) a e
+lines_of_serve {P} {O} versions has_room calls file file_left one two a b c d e opens first room traces ends last =
+    let last_line : List (List ℕ) → Type 0 = λ lines. lines ≡ noted_line two ∷ [] in
+    let behind_room : List (List ℕ) → Type 0 =
+    λ lines. (between : List (List ℕ)) × HasTraces calls between × (lines ≡ between ++ noted_line two ∷ []) in
+    let behind_first : List (List ℕ) → Type 0 =
+    λ lines. (about : List (List ℕ)) × (between : List (List ℕ)) × AreOfRoom has_room about × HasTraces calls between
+    × (lines ≡ about ++ (between ++ noted_line two ∷ [])) in
+    written_then (λ lines. lines ≡ noted_line one ∷ []) behind_first (AreOfServe versions has_room calls) a b e
+    (λ xs ys is behind. record {
+      file = file;
+      first = noted_line one;
+      opens = line_for (opened file versions) one opens;
+      room = behind.0;
+      tells_room = behind.2;
+      between = behind.1;
+      traces = behind.3;
+      file_left = file_left;
+      last = noted_line two;
+      ends = line_for (Ended file_left) two ends;
+      are = ap (λ l. l ++ ys) is ∙ ap (λ l. noted_line one ∷ l) behind.4;
+    }) first
+    (written_then (AreOfRoom has_room) behind_room behind_first b c e
+    (λ xs ys lacks behind. (xs, behind.0, lacks, behind.1, ap (λ l. xs ++ l) behind.2)) room
+    (written_then (HasTraces calls) last_line behind_room c d e (λ xs ys has is. (xs, has, ap (λ l. xs ++ l) is))
+    traces last))

@@ -133,16 +133,16 @@ module _ {S N P O : Type 0} (views : Views N P O) (shown : S → Shown) (old new
 
 module _ {S N P O : Type 0} (views : Views N P O) (shown : S → Shown) (made : Made S) (counted : Counted S)
     (old new : Moment S N) where
-  -- callers who came in outside were served from the store, by what a calendar showed and these calls of the output, and
-  -- nothing was read from the input or from files
+  -- callers who came in outside were served from the store, by what a calendar showed, these calls of the output and
+  -- this writer of errors, and nothing was read from the input or from files
   pub record ServesConnections
       (entrance : ListenOn) (connections : ℕ) (control : Option (List ℕ)) (writes writes_new : Writes)
-      (result : Result Bool CommandRefusal) : Type 0 where
+      (errors errors_new : Option (List ℕ) × Writes) (result : Result Bool CommandRefusal) : Type 0 where
     pub times : List (Option (List ℕ))
     pub ended : Result (Unit {0}) CommandRefusal
     pub serves : ListensAs views.heeded views.told views.heard views.written views.is_new shown made counted
-        old.store new.store entrance connections old.written new.written writes writes_new [] times
-        (views.door old.outside) (views.door new.outside) ended control
+        old.store new.store entrance connections old.written new.written writes writes_new
+        errors errors_new [] times (views.door old.outside) (views.door new.outside) ended control
     pub told : result ≡ acceptance ended
     pub came : new.came ≡ old.came
     pub read : views.read new.outside ≡ views.read old.outside
@@ -151,15 +151,16 @@ module _ {S N P O : Type 0} (views : Views N P O) (shown : S → Shown) (made : 
   -- and pings between them; or an action is done that is no `serve`.
   abbrev pub Acts : Result Bool CommandRefusal → Action → Type 0
   Acts result (action.Serve entrance connections control) =
-      (writes writes_new : Writes)
-      × ServesConnections entrance connections (option_copied control) writes writes_new result
+      (writes writes_new : Writes) × (errors errors_new : Option (List ℕ) × Writes)
+      × ServesConnections entrance connections (option_copied control) writes writes_new errors errors_new result
   Acts result other = ActsAlone views shown old new result other
 
-  -- so it is of a `serve` whose output was called so; of another action this says nothing
-  abbrev pub ServesFor : Writes → Writes → Result Bool CommandRefusal → Action → Type 0
-  ServesFor writes writes_new result (action.Serve entrance connections control) =
-      ServesConnections entrance connections (option_copied control) writes writes_new result
-  ServesFor writes writes_new result other = Unit {0}
+  -- so it is of a `serve` whose output was called so, and of its writer of errors; of another action this says nothing
+  abbrev pub ServesFor : Writes → Writes → Option (List ℕ) × Writes → Option (List ℕ) × Writes
+      → Result Bool CommandRefusal → Action → Type 0
+  ServesFor writes writes_new errors errors_new result (action.Serve entrance connections control) =
+      ServesConnections entrance connections (option_copied control) writes writes_new errors errors_new result
+  ServesFor writes writes_new errors errors_new result other = Unit {0}
 
 -- the action is no `serve`
 abbrev pub IsNoServe : Action → Type 0

@@ -1,10 +1,11 @@
 -- Serving connections from a store, and orders between them, by the history of who came in.
 use Rattle.std.specs.Prelude.{ℕ, ◌≡◌, ◌++◌, ◌⊎◌, Bool, true, false, List, [], ◌∷◌, codes, decimal, Option, Some, None}
-use Rattle.std.specs.Prelude.{Result, Ok, Err}
+use Rattle.std.specs.Prelude.{IfOk, Result, Ok, Err}
 use Rattle.std.specs.Io.KnownBytes.{Appends}
 use Rattle.histories.specs.Account.{Account}
 use Rattle.histories.specs.Calls.{Reads, Writes}
 use Rattle.world.specs.Store.{Shown}
+use Rattle.world.specs.declared.registry.StoreFault.{StoreFault}
 use Rattle.socket.specs.Connections.{GoesThroughMost}
 use Rattle.socket.specs.History.{Does, Door, IsBoundFor}
 use Rattle.socket.specs.Serving.{AnswersEach}
@@ -14,9 +15,9 @@ use Rattle.socket.specs.declared.deed.ListenOn.{ListenOn}
 use Rattle.socket.specs.declared.deed.ListenOn.TheVariants.{Port, Input}
 use Rattle.control.specs.WallClock.{Shows}
 use Rattle.control.specs.Copying.{Making, GoesOnRead, IsOnlyRead}
-use Rattle.control.specs.Notices.{Reserved, room_told}
-use Rattle.control.specs.Traces.{IsLineFor}
-use Rattle.control.specs.Visits.{EndsEach}
+use Rattle.control.specs.Notices.{Ended, Reserved, WritesLines, opened, room_told}
+use Rattle.control.specs.Traces.{HasTraces, IsLineFor}
+use Rattle.control.specs.Visits.{Call, EndsEach}
 use Rattle.commands.specs.Printed.{HasFailed, PrintsFront}
 use Rattle.commands.specs.declared.refusal.CommandRefusal.{CommandRefusal}
 use Rattle.commands.specs.declared.refusal.CommandRefusal.TheVariants.{Io}
@@ -34,6 +35,23 @@ line_of Input = codes "listening on standard input\n"
 abbrev pub AreOfRoom : Bool → List (List ℕ) → Type 0
 AreOfRoom true lines = lines ≡ []
 AreOfRoom false lines = (line : List ℕ) × (lines ≡ line ∷ []) × IsLineFor (Reserved (room_told false)) line
+
+-- The lines that a `serve` with operators writes: that a store with so many versions was opened, that the reserve lacks
+-- room if it does, those that are written while these callers are served, in which each order has its own, and that the
+-- store is no longer served.
+pub record AreOfServe {P O : Type 0} (versions : Result ℕ StoreFault) (has_room : Bool) (calls : List (Call P O))
+    (lines : List (List ℕ)) : Type 0 where
+  pub file : List ℕ
+  pub first : List ℕ
+  pub opens : IsLineFor (opened file versions) first
+  pub room : List (List ℕ)
+  pub tells_room : AreOfRoom has_room room
+  pub between : List (List ℕ)
+  pub traces : HasTraces calls between
+  pub file_left : List ℕ
+  pub last : List ℕ
+  pub ends : IsLineFor (Ended file_left) last
+  pub are : lines ≡ first ∷ (room ++ (between ++ last ∷ []))
 
 -- what is made of a store: a relation of it before and after that, and of what was made
 abbrev pub Made : Type 0 → Type 1
@@ -96,33 +114,49 @@ module _ {P O : Type 0} (heard : P → Account × Reads) (written : P → Option
   AnswersIfOpen (Ok u) = AnswersPeers
   AnswersIfOpen (Err e) = ServesNobody old new entrance printed printed_new writes writes_new door left e
 
+-- Callers were served as `EndsEach` says. Before that, the versions of the store were counted, which only reads it. The
+-- lines of all this were written, and nothing else, unless a call to write or to flush failed. The writer of errors is
+-- what it took, and the calls to it.
+pub record TellsEach {P O : Type 0} (heeded : O → Account × Reads) (told : O → Option (List ℕ) × Writes)
+    (heard : P → Account × Reads) (written : P → Option (List ℕ) × Writes) (is_new : Caller P O → Type 0)
+    {S : Type 0} (shown : S → Shown) (made : Made S) (counted : Counted S) (old new : S) (connections : ℕ)
+    (errors errors_new : Option (List ℕ) × Writes) (since : List ℕ) (door left : Door (Caller P O)) : Type 0 where
+  pub mid : S
+  pub counts : IsOnlyRead (shown old) (shown mid)
+  pub versions : Result ℕ StoreFault
+  pub number : IfOk versions (λ n. counted old mid n)
+  pub each : EndsEach heeded told heard written shown made counted is_new door left mid new since connections
+  pub has_room : Bool
+  pub lines : WritesLines (AreOfServe versions has_room each.reads.each.calls) errors errors_new
+
 module _ {P O : Type 0} (heeded : O → Account × Reads) (told : O → Option (List ℕ) × Writes)
     (heard : P → Account × Reads) (written : P → Option (List ℕ) × Writes) (is_new : Caller P O → Type 0)
     {S : Type 0} (shown : S → Shown) (made : Made S) (counted : Counted S) (old new : S)
-    (entrance : ListenOn) (connections : ℕ) (printed printed_new : Option (List ℕ)) (writes writes_new : Writes) where
+    (entrance : ListenOn) (connections : ℕ) (printed printed_new : Option (List ℕ)) (writes writes_new : Writes)
+    (errors errors_new : Option (List ℕ) × Writes) where
   module _ (since : List ℕ) (door left : Door (Caller P O)) where
     -- Peers were let in, and callers were served: peers, and between them operators, until one of these ended it, or
-    -- the connections were used up. Before that, the versions of the store were counted, which only reads it. The store
-    -- went through at most as many requests as there are connections, with orders between them, and copies of the
-    -- machine's world at the moment of each order, and versions counted in that of each ping, which was told that the
-    -- server began at this time.
+    -- the connections were used up. The lines of that were written. The store went through at most as many requests as
+    -- there are connections, with orders between them, and copies of the machine's world at the moment of each order,
+    -- and versions counted in that of each ping, which was told that the server began at this time.
     pub record ServesCallers : Type 0 where
       pub begun : Door (Caller P O)
       pub opens : LetsIn door begun entrance printed printed_new
-      pub mid : S
-      pub counts : IsOnlyRead (shown old) (shown mid)
-      pub each : EndsEach heeded told heard written shown made counted is_new begun left mid new since connections
+      pub each : TellsEach heeded told heard written is_new shown made counted old new connections errors errors_new
+          since begun left
       pub goes : GoesOnRead shown made counted old new since connections
 
-    -- so it was, or nothing was served
+    -- so it was, or nothing was served, and no line was written
     abbrev pub ServesIfOpen : Result (Unit {0}) CommandRefusal → Type 0
     ServesIfOpen (Ok u) = ServesCallers
-    ServesIfOpen (Err e) = ServesNobody old new entrance printed printed_new writes writes_new door left e
+    ServesIfOpen (Err e) =
+        ServesNobody old new entrance printed printed_new writes writes_new door left e × (errors_new ≡ errors)
 
   module _ (times times_new : List (Option (List ℕ))) (door left : Door (Caller P O)) (result : Result (Unit {0}) CommandRefusal)
     where
-      -- without operators: peers were served or not, and then all was closed
+      -- without operators: peers were served or not, and then all was closed, and no line was written
       pub record Listens : Type 0 where
+        pub unsaid : errors_new ≡ errors
         pub ended : Door (Caller P O)
         pub serves : AnswersIfOpen heard written is_new shown old new entrance connections printed printed_new
             writes writes_new door ended result
@@ -142,11 +176,13 @@ module _ {P O : Type 0} (heeded : O → Account × Reads) (told : O → Option (
         pub closes : Does removed left [] deed.Closed
 
       -- The calendar was read once. It showed no time, and nothing was opened; or it showed one, the socket at this path
-      -- can't be made, and nothing else was opened. Nothing was printed, and the store stays as it was.
+      -- can't be made, and nothing else was opened. Nothing was printed, no line was written, and the store stays as it
+      -- was.
       pub record ListensToNobody (path : List ℕ) : Type 0 where
         pub is_io : result ≡ Err Io
         pub same : new ≡ old
         pub silent : printed_new ≡ printed
+        pub unsaid : errors_new ≡ errors
         pub opens : (Shows times times_new None × (left ≡ door))
             ⊎ ((since : List ℕ) × Shows times times_new (Some since) × Does door left path deed.Unmade)
 

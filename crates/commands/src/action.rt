@@ -153,7 +153,8 @@ pub fn act_on<
           written = O.contents output.new;
         })
         result action.now }
-    // A `serve` that fails after it let peers in does so because a call of the output failed.
+    // A `serve` that fails after it let peers in does so because a call of the output failed, and each order has a line
+    // of its own in `errors`, unless a call to write or to flush failed there.
     ensures serves { spec.ServesFor
         (record {
           heeded = both Q.came Q.reads;
@@ -177,7 +178,8 @@ pub fn act_on<
           came = I.account input.new;
           written = O.contents output.new;
         })
-        (O.writes output.old) (O.writes output.new) result action.now }
+        (O.writes output.old) (O.writes output.new)
+        (both E.contents E.writes errors.old) (both E.contents E.writes errors.new) result action.now }
     // Only `serve` writes to `errors`, and only notices.
     ensures notes { spec.WritesErrors action.now (E.contents errors.old) (E.contents errors.new) }
     // A key is made of what `random` gave, and no other action draws from it.

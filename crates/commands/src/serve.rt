@@ -3,14 +3,13 @@
 //! It is code over [`Entrances`], and has no handle of the system. So it listens where the history of the callers has
 //! it, and nowhere else, and takes nobody else.
 ghost use Rattle.std.specs.Prelude.{◌≡◌, [], option_copied, OnOk};
-ghost use Rattle.control.specs.Copying.{GoesOnRead, IsOnlyRead};
+ghost use Rattle.control.specs.Copying.{GoesOnRead};
 ghost use Rattle.control.specs.Notices.{WritesLines, WritesNotices};
-ghost use Rattle.control.specs.Visits.{EndsEach};
 ghost use Rattle.engine.specs.Causes.{FailsWith};
 ghost use Rattle.socket.specs.Connections.{both};
 ghost use Rattle.commands.specs.Printed.{PrintsText};
 ghost use Rattle.commands.specs.Serve.{AnswersIfOpen, AreOfRoom, Listens, ListensAs, ListensToBoth, ListensToNobody};
-ghost use Rattle.commands.specs.Serve.{Opens, ServesIfOpen, line_of, port_line};
+ghost use Rattle.commands.specs.Serve.{Opens, ServesIfOpen, TellsEach, line_of, port_line};
 
 use crate::printing::{print_both, print_one};
 use crate::refusal::CommandRefusal;
@@ -62,6 +61,7 @@ pub fn serve<
     ensures serves { ListensAs (both Q.came Q.reads) (both Q.written Q.writes)
         (both P.came P.reads) (both P.written P.writes) N.is_new S.shown K.made K.counted shelves.old shelves.new
         entrance connections (O.contents output.old) (O.contents output.new) (O.writes output.old) (O.writes output.new)
+        (both E.contents E.writes errors.old) (both E.contents E.writes errors.new)
         (D.shown calendar.old) (D.shown calendar.new)
         (both N.waiting N.history entrances.old) (both N.waiting N.history entrances.new)
         result (option_copied control.entry) }
@@ -152,6 +152,7 @@ fn serve_operators<
     ensures serves { ListensAs (both Q.came Q.reads) (both Q.written Q.writes)
         (both P.came P.reads) (both P.written P.writes) N.is_new S.shown K.made K.counted shelves.old shelves.new
         entrance connections (O.contents output.old) (O.contents output.new) (O.writes output.old) (O.writes output.new)
+        (both E.contents E.writes errors.old) (both E.contents E.writes errors.new)
         (D.shown calendar.old) (D.shown calendar.new)
         (both N.waiting N.history entrances.old) (both N.waiting N.history entrances.new)
         result (Some path.now) }
@@ -213,7 +214,8 @@ fn serve_callers<
     ensures serves { ServesIfOpen (both Q.came Q.reads) (both Q.written Q.writes)
         (both P.came P.reads) (both P.written P.writes) N.is_new S.shown K.made K.counted shelves.old shelves.new
         entrance connections (O.contents output.old) (O.contents output.new)
-        (O.writes output.old) (O.writes output.new) since
+        (O.writes output.old) (O.writes output.new)
+        (both E.contents E.writes errors.old) (both E.contents E.writes errors.new) since
         (both N.waiting N.history entrances.old) (both N.waiting N.history entrances.new) result }
     ensures flushed { OnOk result ((O.writes output.new).unflushed ≡ []) }
     ensures notes { WritesNotices (E.contents errors.old) (E.contents errors.new) }
@@ -259,11 +261,10 @@ fn serve_told<
     connections: u32,
     errors: &mut E,
 )
-    ensures each { (mid : S) × IsOnlyRead (S.shown shelves.old) (S.shown mid)
-        × EndsEach (both Q.came Q.reads) (both Q.written Q.writes)
-        (both P.came P.reads) (both P.written P.writes) S.shown K.made K.counted N.is_new
-        (both N.waiting N.history entrances.old) (both N.waiting N.history entrances.new)
-        mid shelves.new since connections }
+    ensures each { TellsEach (both Q.came Q.reads) (both Q.written Q.writes)
+        (both P.came P.reads) (both P.written P.writes) N.is_new S.shown K.made K.counted shelves.old shelves.new
+        connections (both E.contents E.writes errors.old) (both E.contents E.writes errors.new) since
+        (both N.waiting N.history entrances.old) (both N.waiting N.history entrances.new) }
     ensures goes { GoesOnRead S.shown K.made K.counted shelves.old shelves.new since connections }
     ensures notes { WritesNotices (E.contents errors.old) (E.contents errors.new) }
 {

@@ -1,4 +1,5 @@
 use Rattle.std.proofs.Common.{refl}
+use Rattle.socket.specs.Connections.{both}
 use Rattle.commands.proofs.Actions.{any_action, serves_none, unwritten}
 use Rattle.commands.proofs.action.act_on.Goals as goal
 
@@ -8,6 +9,8 @@ returns-in-Serve-clause-acts g c =
     rw c.in-Serve.is (
       g.O.Tell.writes c.args.output.now,
       g.O.Tell.writes c.serve.new.output,
+      both g.E.Write.contents g.E.Tell.writes c.args.errors.now,
+      both g.E.Write.contents g.E.Tell.writes c.serve.new.errors,
       record {
         times = g.D.WallClock.shown c.serve.new.calendar;
         ended = c.serve.result;
@@ -38,4 +41,4 @@ returns-in_default-clause-notes g c =
     unwritten c.args.action.now (g.E.Write.contents c.args.errors.now) c.in_default.not-Serve
 
 pub returns-in_default-clause-serves : goal.returns-in_default-clause-serves
-returns-in_default-clause-serves g c = serves_none _ _ _ _ _ _ _ _ _ c.args.action.now c.in_default.not-Serve
+returns-in_default-clause-serves g c = serves_none _ _ _ _ _ _ _ _ _ _ _ c.args.action.now c.in_default.not-Serve

@@ -1,7 +1,22 @@
 use Rattle.control.proofs.NoticeLemmas.{notices_more}
 use Rattle.control.proofs.ServeLemmas.{each_read}
-use Rattle.commands.proofs.Served.{counted_first}
+use Rattle.commands.proofs.Served.{counted_first, lines_of_serve}
 use Rattle.commands.proofs.serve.serve_told.Goals as goal
+
+pub returns-clause-each : goal.returns-clause-each
+returns-clause-each g c =
+    let served = c.serve_both.ensures.traces in
+    record {
+      mid = c.versions-versions.new.shelves;
+      counts = c.versions-versions.ensures.reads;
+      versions = c.versions-versions.result;
+      number = c.versions-versions.ensures.counted;
+      each = served.ends;
+      has_room = c.args.has_room;
+      lines = lines_of_serve _ _ served.ends.reads.each.calls c.served.result.now c.served-2.result.now _ _ _ _ _ _ _
+          c.opened.ensures c.tell.ensures.tells c.tell_room.ensures.tells served.traces c.ended.ensures
+          c.tell-2.ensures.tells;
+    }
 
 pub returns-clause-goes : goal.returns-clause-goes
 returns-clause-goes g c =

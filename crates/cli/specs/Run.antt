@@ -102,7 +102,7 @@ module _ {P : Type 0} (says : Sayings P) (runner : P) (errors errors_new : Optio
   Explains command told = errors_new ≡ errors
 
 -- `words` are the words after the name of the program
-module _ {P : Type 0} (ran : Ran P) (says : Sayings P) (words : List (List ℕ)) (old new : P) (came came_new : Account)
+module _ {P : Type 0} (ran : Ran P) (sayings : Sayings P) (words : List (List ℕ)) (old new : P) (came came_new : Account)
     (written written_new : Option (List ℕ)) where
   -- the command that the words ask for was run, once, and the run ends by its result
   pub record RunsCommand (errors errors_new : Option (List ℕ) × Writes) (ended : Exit) : Type 0 where
@@ -110,8 +110,8 @@ module _ {P : Type 0} (ran : Ran P) (says : Sayings P) (words : List (List ℕ))
     pub asks : Asks words command
     pub told : Result Bool CommandRefusal
     pub errors_warned : Option (List ℕ) × Writes
-    pub warns : Warns says old errors errors_warned command
-    pub explains : Explains says new errors_warned errors_new command told
+    pub warns : Warns sayings old errors errors_warned command
+    pub explains : Explains sayings new errors_warned errors_new command told
     pub runs : ran old new came came_new written written_new told command
     pub ends : ended ≡ exit_of told
 

@@ -1,4 +1,5 @@
 pub mod Connections
 pub mod History
+pub mod Listening
 pub mod Pace
 pub mod Serving

@@ -2,7 +2,8 @@
 //!
 //! [`Entrances`] is where callers come in: peers at a port or at standard input, and operators at a Unix socket. A
 //! history has what was opened there, who was taken, and with what passed over it each connection that was ended. Only
-//! clauses read the history. [`SystemEntrances`] has those of the system, and [`MemoryEntrances`] callers in memory.
+//! clauses read the history. [`SystemEntrances`] has those of the system: it is proved over any listeners, and its
+//! history is what these were asked. [`MemoryEntrances`] has callers in memory.
 //!
 //! [`serve_on`] takes a number of peers from [`Callers`], and on the connection of each it answers one message as
 //! `engine::answer_one` does. A connection that fails counts, and does not disturb those after it.
@@ -29,9 +30,12 @@ mod callers;
 mod connection;
 mod deed;
 mod entrances;
+mod listener_call;
+mod listeners;
 mod listening;
 mod memory;
 mod pace;
+mod polled;
 mod rest;
 mod serve;
 mod socket_file;

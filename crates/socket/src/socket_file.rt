@@ -7,7 +7,7 @@ use std::rt::HostRuntime;
 
 /// What tells the file of a socket from all others, as long as somebody listens there.
 #[derive(Clone, Copy, Debug, Drop, PartialEq, Eq)]
-pub(crate) struct SocketFile {
+pub struct SocketFile {
     device: u64,
     inode: u64,
 }

@@ -1,9 +1,12 @@
 //! A port for peers and a socket for operators, which one thread waits on.
 ghost use Rattle.std.specs.Prelude.{IfOk, IfSome};
 ghost use Rattle.socket.specs.History.{IsUnheard};
+ghost use Rattle.socket.specs.Listening.{IsAt};
+ghost use Rattle.socket.specs.declared.listener_call.Listener.TheVariants.{Operators, Peers};
 
 use crate::callers::Caller;
 use crate::connection::Peer;
+use crate::listener_call::{Listener, Seen};
 use histories::{Connection, Socket, over_tcp, over_unix};
 use mio::unix::SourceFd;
 use mio::{Events, Interest, Poll, Token};
@@ -31,21 +34,15 @@ const OPERATORS: Token = Token(1);
 /// The operator who is watched.
 const OPERATOR: Token = Token(2);
 
-/// Both of them, and who waits at which.
+/// Both of them, with the poll that watches them.
 #[derive(Drop)]
 pub(crate) struct Sockets {
     poll: Poll,
     events: Events<Global>,
     peers: TcpListener,
     operators: UnixListener,
-    /// Whether a peer may wait to be taken.
-    peer_waits: bool,
-    /// Whether an operator may.
-    operator_waits: bool,
     /// The descriptor of the operator who was taken last, or -1 before the first.
     taken: i32,
-    /// Whether the operator who is watched was seen to close its connection.
-    left: bool,
 }
 
 impl Sockets {
@@ -67,127 +64,78 @@ impl Sockets {
             events,
             peers,
             operators,
-            peer_waits: false,
-            operator_waits: false,
             taken: -1,
-            left: false,
         })
     }
 
-    /// How long to wait for somebody to connect: not at all if somebody is known to wait, and otherwise as long as it
-    /// takes.
-    fn longest(&self) -> Option<Duration> {
-        if self.peer_waits || self.operator_waits {
-            Some(Duration::ZERO)
-        } else {
-            None
-        }
-    }
-
-    /// Notes which listeners somebody has connected to, and whether the operator who is watched has left. Waits for
-    /// that at most so long. Fails if the system does.
-    fn look(&mut self, longest: Option<Duration>) -> io::Result<()> {
+    /// Returns which listeners somebody has connected to, and whether the operator who is watched has left. Waits for
+    /// that at most so long, or as long as it takes. Fails if the system does.
+    pub(crate) fn look(&mut self, longest: Option<Duration>) -> io::Result<Seen> {
         self.poll.poll(&mut self.events, longest)?;
+        let mut seen = Seen::nobody();
         for event in self.events.iter() {
             let token = event.token();
             if token == OPERATORS {
-                self.operator_waits = true;
+                seen.operator = true;
             } else if token == OPERATOR {
-                self.left |= event.is_write_closed();
+                seen.left |= event.is_write_closed();
             } else {
-                self.peer_waits = true;
+                seen.peer = true;
             }
         }
-        Ok(())
+        Ok(seen)
     }
 
-    /// Returns a caller who has connected, an operator before a peer, or None if there is none. Fails if the system
-    /// does.
-    ///
-    /// The system names a listener when somebody connects, and once more when it is watched anew, if somebody still
-    /// waits. So the listener of a taken caller is watched anew: that takes a tenth of the time of an `accept` that
-    /// finds nobody.
-    fn accept(&mut self) -> io::Result<Option<SystemCaller>>
-        ensures { IfOk result (λ found. IfSome found (λ caller. IsUnheard
+    /// Returns an operator who has connected, or None if there is none. Fails if the system does.
+    pub(crate) fn accept_operator(&mut self) -> io::Result<Option<SystemCaller>>
+        ensures at { IfOk result (λ found. IfSome found (λ caller. IsAt Operators caller)) }
+        ensures fresh { IfOk result (λ found. IfSome found (λ caller. IsUnheard
             ⟦<SystemPeer as Peer>⟧.came ⟦<SystemPeer as Peer>⟧.written
             ⟦<SystemOperator as Peer>⟧.came ⟦<SystemOperator as Peer>⟧.written caller)) }
     {
-        if self.operator_waits {
-            match self.operators.accept() {
-                Ok((stream, _)) => {
-                    self.taken = stream.as_raw_fd();
-                    let fd = self.operators.as_raw_fd();
-                    self.operator_waits = !watch_anew(&self.poll, fd, OPERATORS);
-                    return Ok(Some(Caller::Operator(over_unix(stream)?)));
-                }
-                Err(e) if e.kind() == ErrorKind::WouldBlock => self.operator_waits = false,
-                Err(e) => return Err(e),
+        match self.operators.accept() {
+            Ok((stream, _)) => {
+                self.taken = stream.as_raw_fd();
+                Ok(Some(Caller::Operator(over_unix(stream)?)))
             }
+            Err(e) if e.kind() == ErrorKind::WouldBlock => Ok(None),
+            Err(e) => Err(e),
         }
-        if self.peer_waits {
-            match self.peers.accept() {
-                Ok((stream, _)) => {
-                    self.peer_waits = !watch_anew(&self.poll, self.peers.as_raw_fd(), PEERS);
-                    return Ok(Some(Caller::Peer(over_tcp(stream)?)));
-                }
-                Err(e) if e.kind() == ErrorKind::WouldBlock => self.peer_waits = false,
-                Err(e) => return Err(e),
-            }
-        }
-        Ok(None)
     }
 
-    /// Waits for the next caller, an operator before a peer. Fails if the system does.
-    pub(crate) fn next(&mut self) -> io::Result<SystemCaller>
-        ensures { IfOk result (λ caller. IsUnheard
-            ⟦<SystemPeer as Peer>⟧.came ⟦<SystemPeer as Peer>⟧.written
-            ⟦<SystemOperator as Peer>⟧.came ⟦<SystemOperator as Peer>⟧.written caller) }
-    {
-        for _ in 0..u64::MAX {
-            self.look(self.longest())?;
-            if let Some(caller) = self.accept()? {
-                return Ok(caller);
-            }
-        }
-        Err(io::Error::from(ErrorKind::Other))
-    }
-
-    /// Returns a caller who waits, an operator before a peer, or None if there is none. Fails if the system does.
-    pub(crate) fn next_waiting(&mut self) -> Option<io::Result<SystemCaller>>
-        ensures { IfSome result (λ next. IfOk next (λ caller. IsUnheard
+    /// Returns a peer who has connected, or None if there is none. Fails if the system does.
+    pub(crate) fn accept_peer(&mut self) -> io::Result<Option<SystemCaller>>
+        ensures at { IfOk result (λ found. IfSome found (λ caller. IsAt Peers caller)) }
+        ensures fresh { IfOk result (λ found. IfSome found (λ caller. IsUnheard
             ⟦<SystemPeer as Peer>⟧.came ⟦<SystemPeer as Peer>⟧.written
             ⟦<SystemOperator as Peer>⟧.came ⟦<SystemOperator as Peer>⟧.written caller)) }
     {
-        if let Err(e) = self.look(Some(Duration::ZERO)) {
-            return Some(Err(e));
-        }
-        match self.accept() {
-            Ok(Some(caller)) => Some(Ok(caller)),
-            Ok(None) => None,
-            Err(e) => Some(Err(e)),
+        match self.peers.accept() {
+            Ok((stream, _)) => Ok(Some(Caller::Peer(over_tcp(stream)?))),
+            Err(e) if e.kind() == ErrorKind::WouldBlock => Ok(None),
+            Err(e) => Err(e),
         }
     }
 
-    /// Watches the operator who was taken last. If the system refuses that, nobody is seen to leave.
-    pub(crate) fn watch_operator(&mut self) {
-        self.left = false;
+    /// Has the poll name a listener again if somebody waits there, and returns whether it will.
+    pub(crate) fn watch_anew(&self, at: Listener) -> bool {
+        let (fd, token) = match at {
+            Listener::Peers => (self.peers.as_raw_fd(), PEERS),
+            Listener::Operators => (self.operators.as_raw_fd(), OPERATORS),
+        };
+        self.poll
+            .registry()
+            .reregister(&mut SourceFd(&fd), token, Interest::READABLE)
+            .is_ok()
+    }
+
+    /// Watches the operator who was taken last. If the system refuses that, it is not seen to leave.
+    pub(crate) fn watch_operator(&self) {
         let _ = watch(&self.poll, self.taken, OPERATOR);
-    }
-
-    /// Whether the operator who is watched was seen to close its connection.
-    pub(crate) fn has_left(&self) -> bool {
-        self.left
     }
 }
 
 fn watch(poll: &Poll, fd: i32, token: Token) -> io::Result<()> {
     poll.registry()
         .register(&mut SourceFd(&fd), token, Interest::READABLE)
-}
-
-/// Has the poll name a listener again if somebody waits there, and returns whether it will.
-fn watch_anew(poll: &Poll, fd: i32, token: Token) -> bool {
-    poll.registry()
-        .reregister(&mut SourceFd(&fd), token, Interest::READABLE)
-        .is_ok()
 }

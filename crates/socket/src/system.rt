@@ -1,55 +1,62 @@
 //! The port, standard input and the Unix socket of the system, where callers come in.
-ghost use Rattle.std.specs.Prelude.{◌≡◌, [], ◌∷◌, ◌++◌, false, None, IfOk, IfSome};
-ghost use Rattle.socket.specs.History.{Ends, IsBoundFor, IsUnheard};
-ghost use Rattle.socket.specs.declared.callers.Caller.TheVariants.{Peer as OfPeer};
+ghost use Rattle.std.specs.Prelude.{◌≡◌, [], ◌∷◌, IfOk, IfSome, reverse};
+ghost use Rattle.socket.specs.History.{IsBoundFor, IsUnheard};
+ghost use Rattle.socket.specs.Listening.{IsAt};
 
 use crate::callers::{Caller, Callers};
 use crate::connection::Peer;
-use crate::deed::{Deed, ListenOn, note_ended, note_peer, note_taken};
-use crate::entrances::Entrances;
+use crate::deed::ListenOn;
+use crate::listener_call::{CallLog, Listener, ListenerCall, Seen, Step};
+use crate::listeners::Listeners;
 use crate::listening::listener_at;
+use crate::polled::PolledEntrances;
 use crate::socket_file::{SocketFile, operators_at, remove_socket};
 use crate::sockets::{Sockets, SystemCaller, SystemOperator, SystemPeer};
-use histories::{over_tcp, over_unix};
+use histories::over_tcp;
 use std::io::{self, ErrorKind};
 use std::mem;
 use std::net::TcpListener;
 use std::os::unix::net::UnixListener;
 use std::rt::HostRuntime;
-use std::time::Clock;
-use store_files::record::Record;
+use std::time::Duration;
 
-/// Where callers of the system come in. That this module, `listening`, `sockets` and `socket_file` do what is noted,
-/// and nothing else, is read and not proved.
-#[derive(Drop)]
-pub struct SystemEntrances<'a> {
-    rt: &'a HostRuntime,
-    open: Open,
-    /// The socket of operators, once it is made.
-    made: Option<SocketFile>,
-    /// Whether the operator who is watched was seen to close its connection.
-    left: bool,
-    noted: Record<Deed<SystemCaller>>,
-}
+/// Where callers of the system come in.
+pub type SystemEntrances<'a> = PolledEntrances<SystemPeer, SystemOperator, SystemListeners<'a>>;
 
-impl<'a> SystemEntrances<'a> {
+impl<'a> PolledEntrances<SystemPeer, SystemOperator, SystemListeners<'a>> {
     /// Returns entrances of which none is open, and at which nothing was done.
     pub fn new(rt: &'a HostRuntime) -> SystemEntrances<'a>
         ensures { ⟦<SystemEntrances<'a> as Callers<SystemPeer, SystemOperator>>⟧.history result ≡ [] }
     {
-        SystemEntrances {
+        PolledEntrances::over(SystemListeners::new(rt))
+    }
+}
+
+/// The listeners of the system. That this module, `listening`, `sockets` and `socket_file` ask the system for what is
+/// noted, and for nothing else, is read and not proved.
+#[derive(Drop)]
+pub struct SystemListeners<'a> {
+    rt: &'a HostRuntime,
+    open: Open,
+    log: CallLog<SystemCaller>,
+}
+
+impl<'a> SystemListeners<'a> {
+    /// Returns listeners of which none is open, and of which nothing was asked.
+    fn new(rt: &'a HostRuntime) -> SystemListeners<'a>
+        ensures { ⟦<SystemListeners<'a> as Listeners<SystemPeer, SystemOperator>>⟧.calls result ≡ [] }
+    {
+        SystemListeners {
             rt,
             open: Open::Nowhere,
-            made: None,
-            left: false,
-            noted: Record::new(),
+            log: CallLog::new(),
         }
     }
 
-    /// Lets peers in, beside the operators if their socket was made. Fails as `Entrances::listen` does.
+    /// Lets peers in, beside the operators if their socket was made. Fails as `Listeners::listen` does.
     fn open_to_peers(&mut self, entrance: ListenOn) -> io::Result<ListenOn>
         ensures bound { IfOk result (λ bound. IsBoundFor entrance bound) }
-        ensures same { self.new.noted ≡ self.old.noted }
+        ensures same { self.new.log ≡ self.old.log }
     {
         let (peers, bound) = listener_at(self.rt, entrance)?;
         self.open = match mem::replace(&mut self.open, Open::Nowhere) {
@@ -76,23 +83,40 @@ enum Open {
 }
 
 impl Open {
-    /// Waits for the next caller, an operator before a peer. Fails if the system does, and where nobody may come in.
-    fn next(&mut self) -> io::Result<SystemCaller>
-        ensures { IfOk result (λ caller. IsUnheard
+    /// Polls both listeners, and waits at most so long. Fails if the system does. Where not both may come in, it names
+    /// nobody, or fails if it would wait as long as it takes.
+    fn look(&mut self, longest: Option<Duration>) -> io::Result<Seen> {
+        match self {
+            Open::ToBoth(sockets) => sockets.look(longest),
+            _ => match longest {
+                Some(_) => Ok(Seen::nobody()),
+                None => Err(io::Error::from(ErrorKind::NotConnected)),
+            },
+        }
+    }
+
+    /// Returns a caller who has connected to a listener, or None if there is none. Finds none where not both may come
+    /// in. Fails if the system does.
+    fn accept_at(&mut self, at: Listener) -> io::Result<Option<SystemCaller>>
+        ensures at { IfOk result (λ found. IfSome found (λ caller. IsAt at caller)) }
+        ensures fresh { IfOk result (λ found. IfSome found (λ caller. IsUnheard
             ⟦<SystemPeer as Peer>⟧.came ⟦<SystemPeer as Peer>⟧.written
-            ⟦<SystemOperator as Peer>⟧.came ⟦<SystemOperator as Peer>⟧.written caller) }
+            ⟦<SystemOperator as Peer>⟧.came ⟦<SystemOperator as Peer>⟧.written caller)) }
     {
         match self {
-            Open::ToBoth(sockets) => sockets.next(),
-            _ => Err(io::Error::from(ErrorKind::NotConnected)),
+            Open::ToBoth(sockets) => match at {
+                Listener::Peers => sockets.accept_peer(),
+                Listener::Operators => sockets.accept_operator(),
+            },
+            _ => Ok(None),
         }
     }
 
     /// Waits for the next peer, without a poll. Fails if the system does, and where others may come in.
-    fn next_peer(&mut self) -> io::Result<SystemPeer>
+    fn wait_for_peer(&mut self) -> io::Result<SystemPeer>
         ensures { IfOk result (λ peer. IsUnheard
             ⟦<SystemPeer as Peer>⟧.came ⟦<SystemPeer as Peer>⟧.written
-            ⟦<SystemOperator as Peer>⟧.came ⟦<SystemOperator as Peer>⟧.written (OfPeer peer)) }
+            ⟦<SystemOperator as Peer>⟧.came ⟦<SystemOperator as Peer>⟧.written (Caller.Peer peer)) }
     {
         match self {
             Open::ToPeers(peers) => {
@@ -104,112 +128,119 @@ impl Open {
     }
 }
 
-/// The callers who connect are not known.
-impl<'a> Callers<SystemPeer, SystemOperator> for SystemEntrances<'a> {
-    ghost use Rattle.std.specs.Prelude.{None};
-    ghost use Rattle.socket.specs.History.{IsUnheard};
+impl<'a> Listeners<SystemPeer, SystemOperator> for SystemListeners<'a> {
+    ghost use Rattle.std.specs.Prelude.{reverse};
 
-    ghost waiting = { λ _. None };
+    ghost calls = { λ s. reverse s.log.noted.deeds };
 
-    ghost history = { λ e. e.noted.deeds };
-
-    ghost left = { λ e. e.left };
-
-    /// Nothing has passed over the connection.
-    ghost is_new = { λ caller. IsUnheard
-        ⟦<SystemPeer as Peer>⟧.came ⟦<SystemPeer as Peer>⟧.written
-        ⟦<SystemOperator as Peer>⟧.came ⟦<SystemOperator as Peer>⟧.written caller };
-
-    /// Takes an operator before a peer.
-    fn next(&mut self) -> io::Result<SystemCaller> {
-        let next = self.open.next();
-        note_taken(&mut self.noted, next)
-    }
-
-    fn next_peer(&mut self) -> io::Result<SystemPeer> {
-        let next = self.open.next_peer();
-        note_peer(&mut self.noted, next)
-    }
-
-    /// Takes an operator before a peer.
-    fn next_waiting(&mut self) -> Option<io::Result<SystemCaller>> {
-        let Open::ToBoth(sockets) = &mut self.open else {
-            return None;
-        };
-        let next = sockets.next_waiting();
-        self.left = sockets.has_left();
-        match next {
-            Some(next) => Some(note_taken(&mut self.noted, next)),
-            None => None,
-        }
-    }
-
-    fn end_peer<C: Clock>(&mut self, clock: &C, peer: SystemPeer, status: Option<u16>)
-        ensures { Ends (None, self.old.noted.deeds) (None, self.new.noted.deeds) (Caller.Peer peer) }
-    {
-        let ended = note_ended(&mut self.noted, Caller::Peer(peer));
-        if let (Caller::Peer(peer), Some(status)) = (ended, status) {
-            let _ = peer.end(clock, status);
-        }
-    }
-
-    fn end_operator(&mut self, operator: SystemOperator)
-        ensures { Ends (None, self.old.noted.deeds) (None, self.new.noted.deeds) (Caller.Operator operator) }
-    {
-        let _ended = note_ended(&mut self.noted, Caller::Operator(operator));
-    }
-
-    /// If the system refuses to watch it, nobody is seen to leave.
-    fn watch_operator(&mut self) {
-        self.left = false;
-        if let Open::ToBoth(sockets) = &mut self.open {
-            sockets.watch_operator();
-        }
-    }
-
-    fn has_left(&self) -> bool {
-        self.left
-    }
-}
-
-impl<'a> Entrances<SystemPeer, SystemOperator> for SystemEntrances<'a> {
     fn listen(&mut self, entrance: ListenOn) -> io::Result<ListenOn> {
         match self.open_to_peers(entrance) {
             Ok(bound) => {
-                self.noted.note(b"", &Deed::Listens(bound));
+                self.log.note(b"", &ListenerCall::Bound(bound));
                 Ok(bound)
             }
             Err(error) => {
-                self.noted.note(b"", &Deed::Deaf(entrance));
+                self.log.note(b"", &ListenerCall::Unbound(entrance));
                 Err(error)
             }
         }
     }
 
-    fn make_socket(&mut self, path: &str) -> io::Result<()> {
+    fn make_socket(&mut self, path: &str) -> io::Result<SocketFile> {
         match operators_at(self.rt, path) {
             Ok((operators, made)) => {
                 self.open = Open::ToOperators(operators);
-                self.made = Some(made);
-                self.noted.note(path.as_bytes(), &Deed::Made);
-                Ok(())
+                self.log.note(path.as_bytes(), &ListenerCall::Made(made));
+                Ok(made)
             }
             Err(error) => {
-                self.noted.note(path.as_bytes(), &Deed::Unmade);
+                self.log.note(path.as_bytes(), &ListenerCall::Unmade);
                 Err(error)
             }
         }
     }
 
-    fn remove_socket(&mut self, path: &str) {
-        self.noted.note(path.as_bytes(), &Deed::Removed);
-        if let Some(made) = self.made {
+    fn remove_socket(&mut self, path: &str, made: Option<SocketFile>) {
+        self.log.note(path.as_bytes(), &ListenerCall::Removed(made));
+        if let Some(made) = made {
             remove_socket(self.rt, path, made);
         }
     }
 
+    fn look(&mut self, longest: Option<Duration>) -> io::Result<Seen> {
+        match self.open.look(longest) {
+            Ok(seen) => {
+                self.log.note(b"", &ListenerCall::Polled(longest, seen));
+                Ok(seen)
+            }
+            Err(error) => {
+                self.log.note(b"", &ListenerCall::Unpolled);
+                Err(error)
+            }
+        }
+    }
+
+    fn accept_at(&mut self, at: Listener) -> io::Result<Option<SystemCaller>> {
+        match self.open.accept_at(at) {
+            Ok(Some(caller)) => Ok(Some(self.log.note_step(Step::Accepted, caller))),
+            Ok(None) => {
+                self.log.note(b"", &ListenerCall::Nobody(at));
+                Ok(None)
+            }
+            Err(error) => {
+                self.log.note(b"", &ListenerCall::Unaccepted);
+                Err(error)
+            }
+        }
+    }
+
+    fn watch_anew(&mut self, at: Listener) -> bool {
+        let named = match &self.open {
+            Open::ToBoth(sockets) => sockets.watch_anew(at),
+            _ => false,
+        };
+        self.log.note(b"", &ListenerCall::Watched(at, named));
+        named
+    }
+
+    fn watch_operator(&mut self) {
+        self.log.note(b"", &ListenerCall::WatchedOperator);
+        if let Open::ToBoth(sockets) = &self.open {
+            sockets.watch_operator();
+        }
+    }
+
+    fn wait_for_peer(&mut self) -> io::Result<SystemPeer> {
+        match self.open.wait_for_peer() {
+            Ok(peer) => Ok(self.log.note_peer(Step::Awaited, peer)),
+            Err(error) => {
+                self.log.note(b"", &ListenerCall::Unawaited);
+                Err(error)
+            }
+        }
+    }
+
+    fn give_up(&mut self) {
+        self.log.note(b"", &ListenerCall::GivenUp);
+    }
+
+    fn leave(&mut self, caller: SystemCaller) -> SystemCaller
+        ensures same { result ≡ caller }
+        ensures noted { reverse self.new.log.noted.deeds
+            ≡ ([], ListenerCall.Connection Step.Left caller) ∷ reverse self.old.log.noted.deeds }
+    {
+        self.log.note_step(Step::Left, caller)
+    }
+
+    fn hang_up(&mut self, caller: SystemCaller)
+        ensures { reverse self.new.log.noted.deeds
+            ≡ ([], ListenerCall.Connection Step.HungUp caller) ∷ reverse self.old.log.noted.deeds }
+    {
+        let _gone = self.log.note_step(Step::HungUp, caller);
+    }
+
     fn close(&mut self) {
-        self.noted.note(b"", &Deed::Closed);
+        self.log.note(b"", &ListenerCall::Closed);
         self.open = Open::Nowhere;
     }
 }

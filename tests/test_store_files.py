@@ -93,8 +93,8 @@ WRONG_KEYS = {
     "empty keys": "UPDATE version SET order_key = X'', rank_key = X''",
 }
 
-# names that are not opened as files: of a folder, and those that sqlite takes for something else
-NO_FILES = ("folder", ":memory:", "", "file:a.db")
+# names that are not opened as files: of a folder, of a device, and those that sqlite takes for something else
+NO_FILES = ("folder", "/dev/zero", ":memory:", "", "file:a.db")
 
 
 def run_row(row: str, name: str) -> tuple[tuple[int, bytes, str], tuple[int, bytes, str]]:
@@ -435,6 +435,16 @@ def test_name_that_is_not_opened_as_a_file(folder: str, name: str, command: list
     os.mkdir("folder")
     assert run([*command, f"--db={name}"]) == refusal("device")
     assert os.listdir(".") == ["folder"], "a file was made"
+
+
+@pytest.mark.parametrize("row", [*COMMANDS, MIGRATE])
+def test_pipe_is_refused(folder: str, row: str) -> None:
+    """No command waits for somebody who opens the other end."""
+    new_store("good.db")
+    os.mkfifo("pipe")
+    line = row.replace(" F", " pipe").split(" | ")[0]
+    assert run(words_of(line), timeout=20) == refusal("device")
+    assert sorted(os.listdir(".")) == ["good.db", "good.db-wal", "pipe"], "a file was made"
 
 
 def test_file_that_is_missing_is_a_store_with_common_alone(folder: str) -> None:

@@ -163,6 +163,16 @@ def test_a_log_whose_file_is_gone(store: str) -> None:
     assert add_team(store) == ""
 
 
+def test_a_link_has_the_log_of_what_it_leads_to(store: str) -> None:
+    os.symlink(store, "link")
+    assert add_team("link") == ""
+    assert find_cause("--db", "link") == ""
+    write({store: b""})
+    assert add_team("link") == "device"
+    real = os.path.realpath(store)
+    assert f"device: there is a log {real}-wal without {real}" in find_cause("--db", "link")
+
+
 @pytest.mark.parametrize("name", ["folder", "none/d.db", "", ":memory:"], ids=lambda name: name or "empty")
 def test_init_refuses_a_name_of_no_file(folder: str, name: str) -> None:
     os.mkdir("folder")

@@ -8,7 +8,6 @@ use file_action::host::ActionHost;
 use histories::{Hear, Hearing, Tell, Telling};
 use network::servers::Servers;
 use network::system::SystemServers;
-use runner::file_checks::FileChecks;
 use runner::found::{ClosedFile, OpenedStore};
 use runner::host::{Host, SystemHost, SystemOutside};
 use runner::system::{SystemOlderFiles, SystemStoreFiles};
@@ -35,8 +34,8 @@ pub trait Runner {
     fn is_new(&self, db: &str) -> bool
         ensures { says.new self.now db.now result };
 
-    /// Whether there is no such file, or it has no bytes, and beside it stands a log that may be what is left of a
-    /// store.
+    /// Whether there is no such file, or it has no bytes, and a log that may be what is left of a store has its name
+    /// and `-wal`.
     fn has_lone_log(&self, name: &str) -> bool
         ensures { says.lone_log self.now name.now result };
 
@@ -146,7 +145,7 @@ impl<'a> Runner for SystemStores<'a> {
     }
 
     fn has_lone_log(&self, name: &str) -> bool {
-        SystemHost { rt: self.rt }.has_lone_log(name)
+        SystemHost { rt: self.rt }.has_lone_log_of_name(name)
     }
 
     fn is_watched(&self) -> bool {

@@ -6,6 +6,7 @@ use commands::files::{is_missing_or_empty, is_same_file};
 use std::fs::{self, File};
 use std::io::{self, ErrorKind, Read};
 use std::rt::HostRuntime;
+use store::file_name::{log_name, real_name};
 use store::files::is_new_store;
 use store_files::refusal::StoreRefusal;
 
@@ -63,8 +64,20 @@ pub(crate) fn has_lone_log(rt: &HostRuntime, path: &str) -> bool {
     if !is_missing_or_empty(rt, path) || is_new_store(rt, path) {
         return false;
     }
-    match format!(in rt.alloc(); "{path}-wal") {
+    match log_name(rt, path) {
         Ok(log) => is_log(rt, log.as_str()),
+        Err(_) => false,
+    }
+}
+
+/// Whether the log that [`has_lone_log`] finds has the name of the file and `-wal`. It has another one if the file's name
+/// is that of a link. False if memory runs out.
+pub(crate) fn has_lone_log_of_name(rt: &HostRuntime, path: &str) -> bool {
+    let Ok(log) = log_name(rt, path) else {
+        return false;
+    };
+    match format!(in rt.alloc(); "{path}-wal") {
+        Ok(named) => is_same_file(rt, named.as_str(), log.as_str()) && has_lone_log(rt, path),
         Err(_) => false,
     }
 }
@@ -91,38 +104,10 @@ fn begins_as_log<R: Read>(file: &mut R) -> io::Result<bool> {
 /// Has the system write to the disk what it has of the log of the store at `path`. Does nothing if the log can't be
 /// opened or memory runs out for its name.
 pub(crate) fn sync_log(rt: &HostRuntime, path: &str) {
-    let Ok(real) = real_name(rt, path) else {
-        return;
-    };
-    let Ok(log) = format!(in rt.alloc(); "{}-wal", real.as_str()) else {
+    let Ok(log) = log_name(rt, path) else {
         return;
     };
     if let Ok(file) = File::open(rt, log.as_str()) {
         let _ = file.sync_data();
-    }
-}
-
-/// Returns the name of a file with no link in it. If there is no file, or only a link that leads to none, it is the end
-/// of the name that was given, behind its folder's name without links; if there is no folder, it is the name that was
-/// given. Fails only if memory runs out.
-pub(crate) fn real_name(rt: &HostRuntime, path: &str) -> io::Result<String> {
-    match fs::canonicalize(rt, path) {
-        Ok(real) => Ok(String::from_str(rt.alloc(), real.as_str())?),
-        Err(error) if error.kind() == ErrorKind::OutOfMemory => Err(error),
-        Err(_) => name_in_folder(rt, path),
-    }
-}
-
-/// Returns the name of a file in its folder, whose name has no link in it. Fails only if memory runs out.
-fn name_in_folder(rt: &HostRuntime, path: &str) -> io::Result<String> {
-    let (folder, name) = match path.rsplit_once('/') {
-        Some(("", name)) => ("/", name),
-        Some(parts) => parts,
-        None => (".", path),
-    };
-    match fs::canonicalize(rt, folder) {
-        Ok(real) => Ok(format!(in rt.alloc(); "{}/{name}", real.as_str())?),
-        Err(error) if error.kind() == ErrorKind::OutOfMemory => Err(error),
-        Err(_) => Ok(String::from_str(rt.alloc(), path)?),
     }
 }

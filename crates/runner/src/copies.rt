@@ -9,7 +9,6 @@ ghost use Rattle.runner.specs.Copies as spec;
 ghost use Rattle.runner.specs.Copies.{CopiesInto, CopiesTo, CountsIn};
 ghost use Rattle.world.specs.Store.{HasCause};
 
-use crate::beside::real_name;
 use crate::file_checks::{FileChecks, target_refusal};
 use crate::found::{ClosedFile, Found, OpenedStore};
 use crate::host::SystemHost;
@@ -26,6 +25,7 @@ use sqlite::Alter;
 use std::alloc::Global;
 use std::time::Clock;
 use store::between::CopyEnd;
+use store::file_name::log_name;
 use store::store::SqlShelves;
 use store_files::files::{StoreFiles, Use};
 use store_files::refusal::StoreRefusal;
@@ -55,10 +55,7 @@ impl<'a, G> FileCopies<'a, G> {
     /// memory runs out for the name.
     fn log_size(&self) -> Option<u64> {
         let rt = self.host.rt;
-        let Ok(real) = real_name(rt, self.db) else {
-            return None;
-        };
-        match format!(in rt.alloc(); "{}-wal", real.as_str()) {
+        match log_name(rt, self.db) {
             Ok(log) => size_of_file(rt, log.as_str()),
             Err(_) => None,
         }

@@ -3,7 +3,7 @@ ghost use Rattle.commands.specs.Action.{Acts, of_entrances, of_files};
 ghost use Rattle.runner.specs.Copies.{CountsIn, Makes};
 ghost use Rattle.socket.specs.Connections.{both};
 
-use crate::beside::{check_name, has_lone_log, sync_log};
+use crate::beside::{check_name, has_lone_log, has_lone_log_of_name, sync_log};
 use crate::copies::FileCopies;
 use crate::extract::extract_file;
 use crate::file_checks::FileChecks;
@@ -108,6 +108,14 @@ pub type SystemOutside<'a> = Outside<SystemEntrances<'a>, SystemFiles<'a>>;
 #[derive(Drop)]
 pub struct SystemHost<'a> {
     pub rt: &'a HostRuntime,
+}
+
+impl<'a> SystemHost<'a> {
+    /// Whether there is no such file, or it has no bytes, and a log that may be what is left of a store has its name
+    /// and `-wal`.
+    pub fn has_lone_log_of_name(&self, name: &str) -> bool {
+        has_lone_log_of_name(self.rt, name)
+    }
 }
 
 impl<'a> FileChecks for SystemHost<'a> {

@@ -11,6 +11,7 @@ use std::io::{self, ErrorKind, Read};
 use std::os::fd::AsRawFd;
 use std::os::unix::fs::{FileExt, MetadataExt, OpenOptionsExt};
 use std::rt::HostRuntime;
+use store::file_name::log_name;
 use store_files::refusal::StoreRefusal;
 
 /// The position of the locks of a database, and their number of bytes.
@@ -52,15 +53,15 @@ pub(crate) fn copy_of(
 fn copy_locked(rt: &HostRuntime, path: &str, to: &str) -> io::Result<TemporaryFiles> {
     // sqlite puts the log beside the file that a link leads to
     let real = fs::canonicalize(rt, path)?;
-    let log_name = format!(in rt.alloc(); "{}-wal", real.as_str())?;
+    let log_path = log_name(rt, real.as_str())?;
     let db = locked(rt, real.as_str())?;
     if has_journal(rt, real.as_str())? {
         return Err(ErrorKind::Unsupported.into());
     }
-    let log = locked_log(rt, log_name.as_str())?;
+    let log = locked_log(rt, log_path.as_str())?;
     let copy = TemporaryFiles::beside(rt, to)?;
     copy_both(rt, &db, &log, &copy)?;
-    if is_as_found(&db) && is_log_as_found(rt, log_name.as_str(), &log) {
+    if is_as_found(&db) && is_log_as_found(rt, log_path.as_str(), &log) {
         return Ok(copy);
     }
     copy.unlink(rt);

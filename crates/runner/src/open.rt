@@ -9,6 +9,7 @@ use crate::temporary_files::TemporaryFiles;
 use sqlite::Start;
 use std::io::{self, ErrorKind};
 use std::rt::HostRuntime;
+use store::file_name::log_name;
 use store::files::{PageRoom, names_no_file};
 use store::open::FileShelves;
 use store_files::files::Use;
@@ -39,7 +40,7 @@ pub(crate) fn open_for<T: Start>(
 /// Whether there is neither a file of this name nor a log beside it, which may be all that is left of a store. False if
 /// memory runs out.
 fn is_missing_store(rt: &HostRuntime, path: &str) -> bool {
-    match format!(in rt.alloc(); "{path}-wal") {
+    match log_name(rt, path) {
         Ok(log) => is_missing(rt, path) && is_missing(rt, log.as_str()),
         Err(_) => false,
     }

@@ -1,12 +1,12 @@
 //! Room on the disk of a served store: a file beside it, which is cut when an order needs room. That these lines do so
 //! is read and tested, and not proved.
 
-use crate::beside::real_name;
 use control::Room;
 use std::fs::{self, File, Metadata, OpenOptions};
 use std::io::{self, ErrorKind};
 use std::os::unix::fs::{FileExt, MetadataExt, OpenOptionsExt};
 use std::rt::HostRuntime;
+use store::file_name::real_name;
 
 /// The bytes of a reserve: 24 MiB. Whoever publishes leaves a log of at most 999 pages and those of one publish, of
 /// which the largest has 4,144, and perhaps no room to copy them into the file. The next order does that first, so it

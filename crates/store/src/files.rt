@@ -12,6 +12,7 @@ ghost use Rattle.setup.specs.Opened.{IsOfOpening};
 ghost use Rattle.store.specs.Names.{IsNoFileName};
 ghost use Rattle.store.specs.Restart.{HoldsNoDatabase, HoldsNoFile, IsOddByte, IsStray};
 
+use crate::file_name::log_name;
 use sqlite::{Connection, Error, ErrorCode, FileFrom, FileStore, Files, Leftover, Start};
 use sqlite_disk::{Disk, Tally};
 use sqlite_pager::Options;
@@ -114,7 +115,7 @@ fn is_log_alone(rt: &HostRuntime, path: &str) -> io::Result<bool> {
         Err(error) if error.kind() == ErrorKind::NotFound => {}
         _ => return Ok(false),
     }
-    let log = format!(in rt.alloc(); "{path}-wal")?;
+    let log = log_name(rt, path)?;
     match fs::symlink_metadata(rt, log.as_str()) {
         Ok(found) => Ok(!found.is_file() || found.len() > 0),
         Err(error) if error.kind() == ErrorKind::NotFound => Ok(false),
@@ -130,7 +131,7 @@ pub fn is_new_store(rt: &HostRuntime, path: &str) -> bool {
         Err(error) if error.kind() == ErrorKind::NotFound => 1,
         _ => return false,
     };
-    let Ok(log) = format!(in rt.alloc(); "{path}-wal") else {
+    let Ok(log) = log_name(rt, path) else {
         return false;
     };
     match fs::symlink_metadata(rt, log.as_str()) {

@@ -44,6 +44,7 @@ mod chain;
 mod counting;
 mod definite;
 mod extract;
+pub mod file_name;
 pub mod files;
 pub mod laws;
 mod look;

@@ -353,6 +353,25 @@ def test_disk_without_room_for_a_copy(folder: str, base: Base, what: str, files:
         assert (files_of("kept"), files_of("small")) == before
 
 
+# an error of the first write to the copy, the older file, and how the migration ends: a text is no store, but that is
+# not judged without memory
+UNWRITTEN = [
+    ("ENOMEM", "old.db", "memory"), ("ENOMEM", "text", "memory"),
+    ("EIO", "old.db", "device"), ("EIO", "text", "bad-schema"),
+]  # fmt: skip
+
+
+@pytest.mark.needs("strace")
+@pytest.mark.parametrize(("error", "name", "wanted"), UNWRITTEN)
+def test_copy_that_cannot_be_written(folder: str, base: Base, error: str, name: str, wanted: str) -> None:
+    base.copy("old2.db", "old.db")
+    write({"text": "no database\n"})
+    before = files_of()
+    fails = ["strace", "-f", "-qq", "-o", "/dev/null", "-e", "trace=write", "-e", f"inject=write:error={error}:when=1"]
+    assert run(["migrate", "--from", name, "--to", "new.db"], before=fails) == refusal(wanted)
+    assert files_of() == before
+
+
 @pytest.mark.parametrize("log", [None, b"", b"of another"], ids=["no log", "an empty log", "a log"])
 def test_store_that_another_program_has_open_is_not_read(folder: str, base: Base, log: bytes | None) -> None:
     base.copy("old2.db", "old.db")

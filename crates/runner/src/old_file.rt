@@ -31,9 +31,9 @@ struct LockedFile {
 /// Copies the file at a path, and its log if there is one, into files beside the new store, and returns their names.
 ///
 /// It locks both files before it reads their first byte and until it has read their last, so no other program writes
-/// meanwhile. Fails with `Device` if another program has one of them open, if one can't be read or has a second name,
-/// if SQLite left a journal, or if the copy can't be made; with `BadSchema` if the copy can't be made of a file that is
-/// no database, whatever the cause; and otherwise with `Memory` if memory runs out. Then it leaves no copy.
+/// meanwhile. Fails with `Memory` if memory runs out. Fails with `Device` if another program has one of them open, if
+/// one can't be read or has a second name, or if SQLite left a journal. If the copy can't be made for another cause, it
+/// fails with `BadSchema` for a file that is no database, and otherwise with `Device`. Then it leaves no copy.
 pub(crate) fn copy_of(
     rt: &HostRuntime,
     path: &str,
@@ -165,6 +165,7 @@ fn copy_both(
     let line = FilesLine::new(rt, "migrate 1/2", db.found.len().saturating_add(log_size));
     match copy_file(rt, db, to.path.as_str(), &line) {
         Ok(()) => {}
+        Err(error) if error.kind() == ErrorKind::OutOfMemory => return Err(error),
         Err(_) if is_foreign(db, log)? => return Err(ErrorKind::InvalidData.into()),
         Err(error) => return Err(error),
     }

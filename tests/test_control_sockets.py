@@ -5,6 +5,7 @@ A restart by the socket that systemd holds is made under load.
 
 import contextlib
 import os
+import signal
 import socket
 import stat
 import subprocess
@@ -139,6 +140,33 @@ def test_socket_whose_mode_cannot_be_set_is_removed(folder: str) -> None:
     assert run(words, before=fails) == refusal("io")
     assert b"EPERM" in read("calls")
     assert not os.path.lexists(CONTROL)
+
+
+@pytest.mark.needs("strace")
+def test_socket_where_the_system_lets_nobody_listen_is_removed(folder: str) -> None:
+    new_store("served.db", ("alpha", KEY))
+    fails = ["strace", "-f", "-qq", "-o", "calls", "-e", "trace=listen", "-e", "inject=listen:error=ENOMEM:when=1"]
+    words = ["serve", "--db", "served.db", "--port", "0", "--control", CONTROL]
+    assert run(words, before=fails) == refusal("io")
+    assert b"ENOMEM" in read("calls")
+    assert not os.path.lexists(CONTROL)
+
+
+@pytest.mark.needs("strace")
+def test_two_servers_that_find_a_left_socket_at_once(folder: str, serve: Callable[..., Server]) -> None:
+    """The first is stopped once it has seen that nobody listens there. Then the second takes the name over."""
+    new_store("first.db", ("alpha", KEY))
+    new_store("second.db", ("alpha", KEY))
+    with socket.socket(socket.AF_UNIX) as left:
+        left.bind("live")
+    stops = ["strace", "-f", "-qq", "-o", "calls", "-e", "trace=connect", "-e", "inject=connect:signal=SIGSTOP:when=1"]
+    words = [PROGRAM, "serve", "--db", "first.db", "--port", "0", "--connections", "0", "--control", "live"]
+    first = subprocess.Popen([*stops, *words], stdout=subprocess.PIPE, stderr=subprocess.PIPE)
+    wait_until(lambda: os.path.exists("calls") and b"stopped by" in read("calls"))
+    second = serve("second.db", "live")
+    os.kill(int(read("calls").split()[0]), signal.SIGCONT)
+    assert (*first.communicate(timeout=60), first.returncode) == (b"", b"goshelf: io\n", 1)
+    assert second.order(b"team-add gamma\n") == b"done\n"
 
 
 def test_socket_with_the_longest_name_that_is_removed(folder: str, serve: Callable[..., Server]) -> None:

@@ -1,17 +1,20 @@
 """How the log of a copy gets to the disk: as it grows, so that nobody waits for all of it at the end.
 
-strace lists what `serve` writes to the new store and when it has that written to the disk.
+strace lists what `serve` writes to the new store and when it has that written to the disk. A library that is loaded
+before the C library is a disk that fails meanwhile.
 """
 
+import os
 import re
 import subprocess
+from collections.abc import Callable
 
 import pytest
 
 from lib.keys import KEY
 from lib.ports import wait_until
-from lib.program import run
-from lib.scratch import read
+from lib.program import PROGRAM, refusal, run
+from lib.scratch import read, write
 from lib.servers import CONTROL, Server
 from lib.stores import new_store
 from lib.tables import connected, put_versions, settled
@@ -19,6 +22,24 @@ from lib.tables import connected, put_versions, settled
 pytestmark = pytest.mark.needs("strace")
 # what goes to the disk where all is written at once, mostly as the file is made, takes some 20 orders
 FEW = 40
+# a disk that loses what was written, and reports that to whoever asks first, and to nobody else: that is a descriptor
+# which only reads the log, since the store itself asks at the commit, by one that writes it
+LOSES_ONCE = """
+#define _GNU_SOURCE
+#include <errno.h>
+#include <fcntl.h>
+#include <sys/syscall.h>
+#include <unistd.h>
+int fdatasync(int fd) {
+    static int reported;
+    if (!reported && (fcntl(fd, F_GETFL) & O_ACCMODE) == O_RDONLY) {
+        reported = 1;
+        errno = EIO;
+        return -1;
+    }
+    return syscall(SYS_fdatasync, fd);
+}
+"""
 WRITE = re.compile(rb"pwrite64\(.*= (\d+)$", re.M)
 CALLS = re.compile(rb"(?:pwrite64|fdatasync|fsync)\(.*", re.M)
 
@@ -79,3 +100,19 @@ class TestSmall:
     def test_small_zips_are_not_handed_to_the_disk_a_few_at_a_time(self, steps: list[int]) -> None:
         assert len(steps) <= FEW
         assert sum(steps) > self.ZIPS << 10
+
+
+@pytest.mark.needs("cc")
+def test_copy_to_a_disk_that_loses_a_part_of_it_fails(folder: str, serve: Callable[..., Server]) -> None:
+    new_store("served.db", ("alpha", KEY))
+    conn = connected("served.db")
+    put_versions(conn, "alpha", "example.com/lib", range(1, 17), bytes(1 << 20))
+    settled(conn)
+    write({"loses.c": LOSES_ONCE, "losing": f'#!/bin/sh\nLD_PRELOAD="$PWD/loses.so" exec {PROGRAM} "$@"\n'})
+    subprocess.run(["cc", "-shared", "-fPIC", "-o", "loses.so", "loses.c"], check=True)
+    os.chmod("losing", 0o755)
+    server = serve("served.db", CONTROL, program="./losing")
+    assert run(["copy", "--control", CONTROL, "--to", "copy.db"]) == refusal("device")
+    assert run(["copy", "--control", CONTROL, "--to", "copy.db"]) == (0, b"", "")
+    server.stop()
+    assert run(["shelf-list", "--db", "copy.db"]) == (0, b"alpha team\ncommon common\n", "")

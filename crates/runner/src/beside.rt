@@ -101,13 +101,14 @@ fn begins_as_log<R: Read>(file: &mut R) -> io::Result<bool> {
     Ok(head[..3] == [0x37, 0x7f, 0x06] && head[3] & 0xfe == 0x82)
 }
 
-/// Has the system write to the disk what it has of the log of the store at `path`. Does nothing if the log can't be
-/// opened or memory runs out for its name.
-pub(crate) fn sync_log(rt: &HostRuntime, path: &str) {
+/// Has the system write to the disk what it has of the log of the store at `path`. False if the disk failed. Does
+/// nothing if the log can't be opened or memory runs out for its name.
+pub(crate) fn sync_log(rt: &HostRuntime, path: &str) -> bool {
     let Ok(log) = log_name(rt, path) else {
-        return;
+        return true;
     };
-    if let Ok(file) = File::open(rt, log.as_str()) {
-        let _ = file.sync_data();
+    match File::open(rt, log.as_str()) {
+        Ok(file) => file.sync_data().is_ok(),
+        Err(_) => true,
     }
 }

@@ -34,9 +34,10 @@ pub trait FileChecks {
     /// store.
     fn has_lone_log(&self, name: &str) -> bool;
 
-    /// Has the system write to the disk what it has of the log of the store at `path`, which stays as it is. If that
-    /// fails, so does the commit, which reports it.
-    fn sync_log(&self, path: &str);
+    /// Has the system write to the disk what it has of the log of the store at `path`, which stays as it is. False if
+    /// the disk failed: the system may report that once, so the commit may not hear of it. If the log can't be opened,
+    /// or memory runs out for its name, nothing is written, and the commit writes all.
+    fn sync_log(&self, path: &str) -> bool;
 
     /// Returns a line on a terminal for a command that begins now, or None if there is no terminal.
     fn line(&self, _verb: &'static str) -> Option<StderrLine<'_>> {

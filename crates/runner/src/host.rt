@@ -143,8 +143,8 @@ impl<'a> FileChecks for SystemHost<'a> {
         has_lone_log(self.rt, name)
     }
 
-    fn sync_log(&self, path: &str) {
-        sync_log(self.rt, path);
+    fn sync_log(&self, path: &str) -> bool {
+        sync_log(self.rt, path)
     }
 
     fn line(&self, verb: &'static str) -> Option<StderrLine<'_>> {

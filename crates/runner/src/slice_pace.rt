@@ -52,13 +52,14 @@ impl<'a, C: Clock, L: FileChecks> SlicePace<'a, C, L> {
         }
     }
 
-    /// Writes the log to the disk, and puts the next time off if that took long.
-    fn settle(&mut self) {
-        self.checks.sync_log(self.to);
+    /// Writes the log to the disk, and puts the next time off if that took long. False if the disk failed.
+    fn settle(&mut self) -> bool {
+        let is_written = self.checks.sync_log(self.to);
         self.unsettled = 0;
         if self.has_taken(SLOW_MILLIS) {
             self.settled_at = self.settled_at.saturating_mul(2).min(LAST_SETTLED);
         }
+        is_written
     }
 
     /// Whether this many milliseconds have passed since the slice began.
@@ -74,12 +75,10 @@ impl<'a, C: Clock, L: FileChecks> SlicePace<'a, C, L> {
 }
 
 impl<'a, C: Clock, L: FileChecks> Pace for SlicePace<'a, C, L> {
-    fn begin(&mut self) {
+    fn begin(&mut self) -> bool {
         self.begun = Instant::now(self.clock).ok();
         self.bytes = 0;
-        if self.unsettled >= self.settled_at {
-            self.settle();
-        }
+        self.unsettled < self.settled_at || self.settle()
     }
 
     fn note(&mut self, bytes: usize) {

@@ -2,8 +2,8 @@
 
 /// Says when a slice is to end. No clause depends on it.
 pub trait Pace {
-    /// Begins a slice.
-    fn begin(&mut self);
+    /// Begins a slice. False if what was copied before can't be kept, because a disk failed: then the copy fails.
+    fn begin(&mut self) -> bool;
 
     /// Notes that a row with this many bytes was copied.
     fn note(&mut self, bytes: usize);

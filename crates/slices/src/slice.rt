@@ -160,8 +160,9 @@ fn copy_next<S: Alter, F: Alter, P: Pace>(
 }
 
 /// Copies entries of the source into the fresh store, inside a transaction, up to where the pace says, and returns
-/// where the walk goes on. It passes over the newcomers. Fails with `Source` or `Fresh`, by the store that failed, and
-/// with `DatabaseCorrupt` of the source if there are fewer versions than the cursor counts.
+/// where the walk goes on. It passes over the newcomers. Fails with `Source` or `Fresh`, by the store that failed; with
+/// `DatabaseCorrupt` of the source if there are fewer versions than the cursor counts; and with `SystemIoFailure` of the
+/// fresh store if the pace says that its disk failed.
 pub fn copy_slice<S: Alter, F: Alter, P: Pace>(
     source: &mut Connection<S>,
     tx: &mut Transaction<'_, F>,
@@ -177,7 +178,9 @@ pub fn copy_slice<S: Alter, F: Alter, P: Pace>(
     ensures copies { CopiesOn (state S.Store source.old) (state S.Store source.new)
         (state F.Store tx.old.conn.now) (state F.Store tx.new.conn.now) newcomers.now at result }
 {
-    pace.begin();
+    if !pace.begin() {
+        return Err(CopyError::Fresh(Error::SqliteFailure(ErrorCode::SystemIoFailure)));
+    }
     let mut at = copy_next(source, tx, newcomers, at, pace)?;
     for _ in 0..u64::MAX {
         if at.is_done() || pace.is_spent() {

@@ -48,7 +48,9 @@ impl<'a> FileChecks for MemoryHost<'a> {
         false
     }
 
-    fn sync_log(&self, _path: &str) {}
+    fn sync_log(&self, _path: &str) -> bool {
+        true
+    }
 }
 
 impl<'a> ActionHost<MapShelves, ()> for MemoryHost<'a> {

@@ -1,10 +1,18 @@
-use Rattle.std.proofs.Common.{true, refl, ◌∙◌}
+use Rattle.std.proofs.Common.{true, false, refl, ◌∙◌}
 use Rattle.sqlite.specs.Held.{state}
 use Rattle.tables.proofs.FailureLemmas.{was_clean}
 use Rattle.statements.proofs.CallLemmas.{spares_then}
 use Rattle.statements.proofs.ExtractLemmas.{spares_itself}
-use Rattle.statements.proofs.GoingLemmas.{goes_on_itself, goes_on_then}
+use Rattle.statements.proofs.GoingLemmas.{goes_on_itself, goes_on_or_ends, goes_on_then}
 use Rattle.slices.proofs.slice.copy_slice.Goals as goal
+
+pub returns-then-not-begin-clause-reads : goal.returns-then-not-begin-clause-reads
+returns-then-not-begin-clause-reads g c = spares_itself (state g.S.Store c.args.source.now)
+
+pub returns-then-not-begin-clause-goes_on : goal.returns-then-not-begin-clause-goes_on
+returns-then-not-begin-clause-goes_on g c =
+    let s = state g.F.Store c.args.tx.now.conn.now in
+    goes_on_or_ends s s false (goes_on_itself s)
 
 pub loop-init : goal.loop-init
 loop-init g c =

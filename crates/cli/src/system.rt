@@ -1,7 +1,9 @@
 //! What runs a command: the files of the system, or any other `Runner`.
 ghost use Rattle.std.specs.Prelude.{◌≡◌, []};
+ghost use Rattle.commands.specs.RandomBytes.{no_draws};
 
 use commands::action::Outside;
+use commands::random_bytes::{RandomBytes, SystemRandomBytes};
 use commands::refusal::CommandRefusal;
 use commands::sources::{Sources, SystemFiles};
 use file_action::host::ActionHost;
@@ -55,7 +57,7 @@ pub trait Runner {
 }
 
 /// The system with its files, its servers and its entrances, and with all that was done to the files of stores, over
-/// connections to servers, and with callers, and all that was read of other files.
+/// connections to servers, and with callers, all that was read of other files, and all random bytes.
 #[derive(Drop)]
 pub struct SystemStores<'a> {
     rt: &'a HostRuntime,
@@ -67,12 +69,14 @@ pub struct SystemStores<'a> {
     pub older: SystemOlderFiles<'a>,
     /// The `serve` that gets an order.
     pub servers: SystemServers<'a>,
-    /// Where `serve` lets callers in, and the files that a publish and an import read.
+    /// Where `serve` lets callers in, the files that a publish and an import read, and what gives the random bytes of a
+    /// key that is added to a file.
     pub outside: SystemOutside<'a>,
 }
 
 impl<'a> SystemStores<'a> {
-    /// Returns the system, with empty histories of its stores, its servers, its entrances and the files that are read.
+    /// Returns the system, with empty histories of its stores, its servers, its entrances and the files that are read,
+    /// of which no random bytes were drawn.
     pub fn new(rt: &'a HostRuntime) -> SystemStores<'a>
         ensures files { ⟦<SystemStoreFiles<'a> as StoreFiles<OpenedStore, ClosedFile>>⟧.history result.files ≡ [] }
         ensures targets { ⟦<SystemStoreFiles<'a> as StoreFiles<OpenedStore, ClosedFile>>⟧.history result.targets ≡ [] }
@@ -82,6 +86,7 @@ impl<'a> SystemStores<'a> {
         ensures entrances { ⟦<SystemEntrances<'a> as Callers<SystemPeer, SystemOperator>>⟧.history
             result.outside.entrances ≡ [] }
         ensures read { ⟦<SystemFiles<'a> as Sources>⟧.history result.outside.files ≡ [] }
+        ensures drawn { ⟦<SystemRandomBytes<'a> as RandomBytes>⟧.drawn result.outside.random ≡ no_draws }
     {
         SystemStores {
             rt,
@@ -92,6 +97,7 @@ impl<'a> SystemStores<'a> {
             outside: Outside {
                 entrances: SystemEntrances::new(rt),
                 files: SystemFiles::new(rt),
+                random: SystemRandomBytes::new(rt),
             },
         }
     }

@@ -17,7 +17,7 @@ use Rattle.commands.specs.NewKey.{AddsNew, HasNoKey}
 use Rattle.commands.specs.Opening.{AnswersAll, Breaks}
 use Rattle.commands.specs.Printed.{FailsByOutput, FailsEarlyOrByOutput, FailsUnprinted}
 use Rattle.commands.specs.Publish.{asked_by, PublishesFiles}
-use Rattle.commands.specs.RandomBytes.{Drawn, no_draws}
+use Rattle.commands.specs.RandomBytes.{Drawn}
 use Rattle.commands.specs.Report.{PrintsCatalogOf, PrintsInventory, PrintsList, PrintsRequirements}
 use Rattle.commands.specs.Serve.{Made, Counted, ListensAs}
 use Rattle.commands.specs.Sources.{FileDone}
@@ -27,9 +27,9 @@ use Rattle.commands.specs.declared.action.Action.{Action}
 use Rattle.commands.specs.declared.action.Action.TheVariants as action
 use Rattle.commands.specs.declared.action.Outside.{Outside}
 
--- What is seen of what an action reaches outside of its store and its streams, which is entrances of callers and files
--- that are read: what passed over the connections of operators and of peers, what is known of a new one, who waits and
--- what was done there; and the files that were read.
+-- What is seen of what an action reaches outside of its store and its streams, which is entrances of callers, files that
+-- are read, and what gives random bytes: what passed over the connections of operators and of peers, what is known of a
+-- new one, who waits and what was done there; the files that were read; and the bytes that were drawn.
 pub record Views (N P O : Type 0) : Type 1 where
   pub heeded : O → Account × Reads
   pub told : O → Option (List ℕ) × Writes
@@ -38,13 +38,17 @@ pub record Views (N P O : Type 0) : Type 1 where
   pub is_new : Caller P O → Type 0
   pub door : N → Door (Caller P O)
   pub read : N → List FileDone
+  pub drawn : N → Drawn
 
--- what is seen of the entrances, or of the files, of what is reached
-abbrev pub of_entrances : {N F V : Type 0} → (N → V) → Outside N F → V
+-- what is seen of the entrances, of the files, or of what gives random bytes, of what is reached
+abbrev pub of_entrances : {N F B V : Type 0} → (N → V) → Outside N F B → V
 of_entrances view outside = view outside.entrances
 
-abbrev pub of_files : {N F V : Type 0} → (F → V) → Outside N F → V
+abbrev pub of_files : {N F B V : Type 0} → (F → V) → Outside N F B → V
 of_files view outside = view outside.files
+
+abbrev pub of_random : {N F B V : Type 0} → (B → V) → Outside N F B → V
+of_random view outside = view outside.random
 
 -- a store, what is reached outside of it, what came on the input, and the bytes on the output, at a moment
 pub record Moment (S N : Type 0) : Type 0 where
@@ -65,10 +69,11 @@ module _ {S N : Type 0} (old new : Moment S N) where
     pub written : new.written ≡ old.written
     pub outside : new.outside ≡ old.outside
 
--- nothing was read from the input, and nothing was done with callers
+-- nothing was read from the input, nothing was done with callers, and nothing was drawn
 pub record OnlyReads {S N P O : Type 0} (views : Views N P O) (old new : Moment S N) : Type 0 where
   pub came : new.came ≡ old.came
   pub door : views.door new.outside ≡ views.door old.outside
+  pub drawn : views.drawn new.outside ≡ views.drawn old.outside
 
 -- the result of a command that is accepted once it is done
 abbrev pub acceptance : Result (Unit {0}) CommandRefusal → Result Bool CommandRefusal
@@ -83,13 +88,16 @@ module _ {S N P O : Type 0} (views : Views N P O) (shown : S → Shown) (old new
     pub told : result ≡ acceptance ended
     pub streams : KeepsStreams old new
 
-  -- a key was made of the bytes that were drawn, printed and added, and nothing else was done
+  -- a key was made of the bytes that were drawn, printed and added, nothing was read from the input or from files, and
+  -- nothing was done with callers
   pub record AddsNewAlone (shelf : Bor (List ℕ)) (right : Right) (result : Result Bool CommandRefusal) : Type 0 where
-    pub drawn : Drawn
     pub ended : Result (Unit {0}) CommandRefusal
-    pub adds : AddsNew shown no_draws drawn old.store new.store shelf right old.written new.written ended
+    pub adds : AddsNew shown (views.drawn old.outside) (views.drawn new.outside) old.store new.store shelf right
+        old.written new.written ended
     pub told : result ≡ acceptance ended
-    pub keeps : KeepsInput old new
+    pub came : new.came ≡ old.came
+    pub door : views.door new.outside ≡ views.door old.outside
+    pub read : views.read new.outside ≡ views.read old.outside
 
   -- the key with this fingerprint was revoked, and nothing was read or written
   pub record RevokesNamedAlone (fingerprint : List ℕ) (result : Result Bool CommandRefusal) : Type 0 where
@@ -134,7 +142,7 @@ module _ {S N P O : Type 0} (views : Views N P O) (shown : S → Shown) (old new
 module _ {S N P O : Type 0} (views : Views N P O) (shown : S → Shown) (made : Made S) (counted : Counted S)
     (old new : Moment S N) where
   -- callers who came in outside were served from the store, by what a calendar showed, these calls of the output and
-  -- this writer of errors, and nothing was read from the input or from files
+  -- this writer of errors, nothing was read from the input or from files, and nothing was drawn
   pub record ServesConnections
       (entrance : ListenOn) (connections : ℕ) (control : Option (List ℕ)) (writes writes_new : Writes)
       (errors errors_new : Option (List ℕ) × Writes) (result : Result Bool CommandRefusal) : Type 0 where
@@ -146,6 +154,7 @@ module _ {S N P O : Type 0} (views : Views N P O) (shown : S → Shown) (made : 
     pub told : result ≡ acceptance ended
     pub came : new.came ≡ old.came
     pub read : views.read new.outside ≡ views.read old.outside
+    pub drawn : views.drawn new.outside ≡ views.drawn old.outside
 
   -- What is done by the kind of action: no more requests than there are connections are answered, and orders, copies
   -- and pings between them; or an action is done that is no `serve`.
@@ -171,14 +180,6 @@ IsNoServe other = Unit {0}
 abbrev pub WritesErrors : Action → Option (List ℕ) → Option (List ℕ) → Type 0
 WritesErrors (action.Serve entrance connections control) errors errors_new = WritesNotices errors errors_new
 WritesErrors other errors errors_new = errors_new ≡ errors
-
--- A key was made of the bytes that were drawn, and printed and added. Another action draws nothing.
-abbrev pub DrawsFor : {S : Type 0} → (S → Shown) → Action → Drawn → Drawn → S → S → Option (List ℕ) → Option (List ℕ)
-    → Result Bool CommandRefusal → Type 0
-DrawsFor shown (action.AddNew shelf right) drawn drawn_new old new written written_new result =
-    (ended : Result (Unit {0}) CommandRefusal) × (result ≡ acceptance ended)
-    × AddsNew shown drawn drawn_new old new shelf right written written_new ended
-DrawsFor shown other drawn drawn_new old new written written_new result = drawn_new ≡ drawn
 
 -- If making a key failed, nothing was printed, unless a call of the output failed. Of another action this says nothing.
 abbrev pub PrintsKeyFor : Action → Option (List ℕ) → Option (List ℕ) → Writes → Writes → Result Bool CommandRefusal

@@ -3,7 +3,6 @@
 //! none of what `serve` needs besides: no clock, no copies, and no writer of errors.
 ghost use Rattle.std.specs.Prelude.{◌≡◌, []};
 ghost use Rattle.commands.specs.Action as spec;
-ghost use Rattle.commands.specs.RandomBytes.{no_draws};
 ghost use Rattle.socket.specs.Connections.{both};
 
 use crate::answer::answer_input;
@@ -84,11 +83,13 @@ pub enum Action<'a> {
 
 /// What an action reaches outside of its store and its streams.
 #[derive(Drop)]
-pub struct Outside<N, F> {
+pub struct Outside<N, F, B> {
     /// Where callers come in.
     pub entrances: N,
     /// The files that are read.
     pub files: F,
+    /// What gives the random bytes of a key.
+    pub random: B,
 }
 
 /// Does one action on a store and returns whether it was accepted; only a publish and an import can be done and not
@@ -96,9 +97,9 @@ pub struct Outside<N, F> {
 ///
 /// It has no handle of the system, so what it reaches is what it is handed. `serve` lets callers in by the entrances of
 /// `outside`, and writes notices to `errors`; no other action opens those, or writes there. A publish and an import
-/// read by the files of `outside`, and no other action does. A key is made of `random`. `clock` bounds the time of
-/// callers, `calendar` shows when a `serve` began, and `copied` when a copy was made. `progress` shows how far an
-/// import is. Fails as the function of the action does.
+/// read by the files of `outside`, and no other action does. A key is made of what its `random` gives, and no other
+/// action draws from it. `clock` bounds the time of callers, `calendar` shows when a `serve` began, and `copied` when a
+/// copy was made. `progress` shows how far an import is. Fails as the function of the action does.
 pub fn act_on<
     C: Clock,
     D: WallClock + Drop,
@@ -117,18 +118,16 @@ pub fn act_on<
     clock: &C,
     calendar: &mut D,
     copied: D,
-    random: &mut B,
     progress: &ImportProgress<'_>,
     shelves: &mut S,
     copies: &K,
-    outside: &mut Outside<N, F>,
+    outside: &mut Outside<N, F, B>,
     action: &Action,
     input: &mut I,
     output: &mut O,
     errors: &mut E,
 ) -> Result<bool, CommandRefusal>
     requires unshown { D.shown calendar.old ≡ [] }
-    requires undrawn { B.drawn random.old ≡ no_draws }
     ensures acts { spec.Acts
         (record {
           heeded = both Q.came Q.reads;
@@ -138,6 +137,7 @@ pub fn act_on<
           is_new = N.is_new;
           door = spec.of_entrances (both N.waiting N.history);
           read = spec.of_files F.history;
+          drawn = spec.of_random B.drawn;
         })
         S.shown K.made K.counted
         (record {
@@ -164,6 +164,7 @@ pub fn act_on<
           is_new = N.is_new;
           door = spec.of_entrances (both N.waiting N.history);
           read = spec.of_files F.history;
+          drawn = spec.of_random B.drawn;
         })
         S.shown K.made K.counted
         (record {
@@ -182,9 +183,6 @@ pub fn act_on<
         (both E.contents E.writes errors.old) (both E.contents E.writes errors.new) result action.now }
     // Only `serve` writes to `errors`, and only notices.
     ensures notes { spec.WritesErrors action.now (E.contents errors.old) (E.contents errors.new) }
-    // A key is made of what `random` gave, and no other action draws from it.
-    ensures draws { spec.DrawsFor S.shown action.now (B.drawn random.old) (B.drawn random.new) shelves.old shelves.new
-        (O.contents output.old) (O.contents output.new) result }
     // If the making of a key fails, nothing is printed, unless a call of the output failed.
     ensures whole { spec.PrintsKeyFor action.now (O.contents output.old) (O.contents output.new)
         (O.writes output.old) (O.writes output.new) result }
@@ -202,8 +200,8 @@ pub fn act_on<
           came = I.account input.new;
           written = O.contents output.new;
         })
-        (record { reads = I.reads input.old; writes = O.writes output.old; drawn = B.drawn random.old })
-        (record { reads = I.reads input.new; writes = O.writes output.new; drawn = B.drawn random.new })
+        (record { reads = I.reads input.old; writes = O.writes output.old; drawn = B.drawn outside.old.random })
+        (record { reads = I.reads input.new; writes = O.writes output.new; drawn = B.drawn outside.new.random })
         result action.now }
 {
     match action {
@@ -225,9 +223,7 @@ pub fn act_on<
             output,
             errors,
         )),
-        _ => act_alone(
-            alloc, random, progress, shelves, outside, action, input, output,
-        ),
+        _ => act_alone(alloc, progress, shelves, outside, action, input, output),
     }
 }
 
@@ -243,16 +239,14 @@ fn act_alone<
     O: Tell,
 >(
     alloc: Global,
-    random: &mut B,
     progress: &ImportProgress<'_>,
     shelves: &mut S,
-    outside: &mut Outside<N, F>,
+    outside: &mut Outside<N, F, B>,
     action: &Action,
     input: &mut I,
     output: &mut O,
 ) -> Result<bool, CommandRefusal>
     requires no_serve { spec.IsNoServe action.now }
-    requires undrawn { B.drawn random.old ≡ no_draws }
     ensures acts { spec.ActsAlone
         (record {
           heeded = both Q.came Q.reads;
@@ -262,6 +256,7 @@ fn act_alone<
           is_new = N.is_new;
           door = spec.of_entrances (both N.waiting N.history);
           read = spec.of_files F.history;
+          drawn = spec.of_random B.drawn;
         })
         S.shown
         (record {
@@ -277,8 +272,6 @@ fn act_alone<
           written = O.contents output.new;
         })
         result action.now }
-    ensures draws { spec.DrawsFor S.shown action.now (B.drawn random.old) (B.drawn random.new) shelves.old shelves.new
-        (O.contents output.old) (O.contents output.new) result }
     ensures whole { spec.PrintsKeyFor action.now (O.contents output.old) (O.contents output.new)
         (O.writes output.old) (O.writes output.new) result }
     ensures cause { spec.CauseOf S.shown
@@ -294,14 +287,15 @@ fn act_alone<
           came = I.account input.new;
           written = O.contents output.new;
         })
-        (record { reads = I.reads input.old; writes = O.writes output.old; drawn = B.drawn random.old })
-        (record { reads = I.reads input.new; writes = O.writes output.new; drawn = B.drawn random.new })
+        (record { reads = I.reads input.old; writes = O.writes output.old; drawn = B.drawn outside.old.random })
+        (record { reads = I.reads input.new; writes = O.writes output.new; drawn = B.drawn outside.new.random })
         result action.now }
 {
     match action {
         Action::Open => Ok(true),
         Action::Register { command } => acceptance(register(shelves, command)),
         Action::AddNew { shelf, right } => {
+            let random = &mut outside.random;
             acceptance(add_new(alloc, random, shelves, shelf, *right, output))
         }
         Action::RevokeByFingerprint { fingerprint } => {

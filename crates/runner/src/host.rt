@@ -1,5 +1,5 @@
 //! What a command asks of the system, beside opening and closing the stores of files.
-ghost use Rattle.commands.specs.Action.{Acts, of_entrances, of_files};
+ghost use Rattle.commands.specs.Action.{Acts, of_entrances, of_files, of_random};
 ghost use Rattle.runner.specs.Copies.{CountsIn, Makes};
 ghost use Rattle.socket.specs.Connections.{both};
 
@@ -17,7 +17,7 @@ use commands::import_progress::ImportProgress;
 use commands::moment::SystemWallClock;
 use commands::new_key::order_new_at;
 use commands::progress::StderrLine;
-use commands::random_bytes::SystemRandomBytes;
+use commands::random_bytes::{RandomBytes, SystemRandomBytes};
 use commands::refusal::CommandRefusal;
 use commands::sources::{Sources, SystemFiles};
 use control::Operator;
@@ -102,7 +102,7 @@ pub trait Host<S, C>: FileChecks {
 }
 
 /// What an action reaches of the system outside of its store and its streams.
-pub type SystemOutside<'a> = Outside<SystemEntrances<'a>, SystemFiles<'a>>;
+pub type SystemOutside<'a> = Outside<SystemEntrances<'a>, SystemFiles<'a>, SystemRandomBytes<'a>>;
 
 /// The system.
 #[derive(Drop)]
@@ -153,9 +153,10 @@ impl<'a> FileChecks for SystemHost<'a> {
     }
 }
 
-/// What it reaches outside is where callers come in, and the files that a publish and an import read.
+/// What it reaches outside is where callers come in, the files that a publish and an import read, and what gives the
+/// random bytes of a key.
 impl<'a> ActionHost<OpenedStore, SystemOutside<'a>> for SystemHost<'a> {
-    ghost use Rattle.commands.specs.Action.{Acts, of_entrances, of_files};
+    ghost use Rattle.commands.specs.Action.{Acts, of_entrances, of_files, of_random};
     ghost use Rattle.file_action.specs.OnFile.{within};
     ghost use Rattle.runner.specs.Copies.{CountsIn, Makes};
     ghost use Rattle.runner.specs.declared.found.OpenedStore.{OpenedStore};
@@ -171,6 +172,7 @@ impl<'a> ActionHost<OpenedStore, SystemOutside<'a>> for SystemHost<'a> {
           door = of_entrances (both ⟦<SystemEntrances<'a> as Callers<SystemPeer, SystemOperator>>⟧.waiting
               ⟦<SystemEntrances<'a> as Callers<SystemPeer, SystemOperator>>⟧.history);
           read = of_files ⟦<SystemFiles<'a> as Sources>⟧.history;
+          drawn = of_random ⟦<SystemRandomBytes<'a> as RandomBytes>⟧.drawn;
         })
         ⟦<Found as Shelves>⟧.shown
         (Makes ⟦<Found as Shelves>⟧.shown (λ (s : OpenedStore). ⟦<Found as Shelves>⟧.shown s.shelves)
@@ -252,8 +254,8 @@ impl<'a> Host<OpenedStore, ClosedFile> for SystemHost<'a> {
     }
 }
 
-/// Does an action on the open store of the file of this name, with the clocks, the randomness and the standard error of
-/// the system, and returns whether it was accepted. Fails as [`act_on`] does.
+/// Does an action on the open store of the file of this name, with the clocks and the standard error of the system, and
+/// returns whether it was accepted. Fails as [`act_on`] does.
 fn act_in<
     'a,
     S: Alter,
@@ -261,13 +263,14 @@ fn act_in<
     Q: Operator + Drop,
     N: Entrances<P, Q>,
     F: Sources,
+    B: RandomBytes,
     I: Hear,
     O: Tell,
 >(
     rt: &'a HostRuntime,
     name: &str,
     shelves: &mut SqlShelves<S>,
-    outside: &mut Outside<N, F>,
+    outside: &mut Outside<N, F, B>,
     action: &Action,
     input: &mut I,
     output: &mut O,
@@ -281,6 +284,7 @@ fn act_in<
           is_new = N.is_new;
           door = of_entrances (both N.waiting N.history);
           read = of_files F.history;
+          drawn = of_random B.drawn;
         })
         ⟦<SqlShelves<S> as Shelves>⟧.shown
         (Makes ⟦<SqlShelves<S> as Shelves>⟧.shown (λ (s : OpenedStore). ⟦<Found as Shelves>⟧.shown s.shelves)
@@ -312,7 +316,6 @@ fn act_in<
         rt,
         &mut SystemWallClock::new(rt),
         SystemWallClock::new(rt),
-        &mut SystemRandomBytes::new(rt),
         &ImportProgress::on_stderr(rt),
         shelves,
         &copies,

@@ -18,6 +18,7 @@ returns-in-Serve-clause-acts g c =
         told = c.acceptance.ensures;
         came = refl;
         read = refl;
+        drawn = refl;
       },
     )
 
@@ -31,6 +32,7 @@ returns-in-Serve-clause-serves g c =
       told = c.acceptance.ensures;
       came = refl;
       read = refl;
+      drawn = refl;
     })
 
 pub returns-in_default-clause-acts : goal.returns-in_default-clause-acts

@@ -45,7 +45,7 @@ pub(crate) fn order_copy<R: Hear, W: Tell, V: Servers<R, W>>(
     if let Some(line) = line {
         line.clear();
     }
-    reply_to(alloc, order, got, read)
+    reply_to(order, got, read)
 }
 
 /// Reads the line of an outcome. Each time that a read is late or interrupted, it shows how far the copy is. Fails with

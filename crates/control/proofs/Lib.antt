@@ -6,6 +6,10 @@ pub mod TaskLemmas
 pub mod HearingLemmas
 pub mod PaceLemmas
 pub mod PingLemmas
+pub mod HealthAscii
+pub mod HealthPieces
+pub mod HealthShelves
+pub mod HealthLines
 pub mod ListingLemmas
 pub mod NamingLemmas
 pub mod StepLemmas

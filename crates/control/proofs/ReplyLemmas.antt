@@ -20,7 +20,8 @@ use Rattle.orders.specs.declared.outcome.Outcome.{Outcome}
 use Rattle.orders.specs.declared.outcome.Outcome.TheVariants as outcome
 use Rattle.orders.proofs.OutcomeLemmas.{one_outcome}
 use Rattle.control.specs.Asking.{EndsBy, HasNoBound, IsAsked, IsLastFrom, IsListed, IsNone, IsNoList, IsNoOutcomeIn, IsNoReply}
-use Rattle.control.specs.Asking.{IsOutcomeIn, IsReadBack, IsReplyTo, IsSent, OrderGets, RepliesBy, extent_of, is_done}
+use Rattle.control.specs.Asking.{IsOutcomeIn, IsReplyTo, IsSent, OrderGets, RepliesBy, extent_of, is_done}
+use Rattle.control.specs.Health.{IsHealthLine}
 use Rattle.control.specs.Line.{Comes, ComesWith, HasTried, IsAll, IsPartAfter, LacksRoom, ReadsMore, ReadsReply}
 use Rattle.control.specs.Line.{longest_outcome, most_read, reply_room}
 use Rattle.control.specs.Listing.{AreLines}
@@ -133,13 +134,18 @@ no_reply Ping got over all none = no_more_follows Ping got over all none
 no_reply (ListOf listing) got over all none = no_more_follows (ListOf listing) got over all none
 no_reply (Catalog key) got over all none = no_more_follows (Catalog key) got over all none
 no_reply Stop got over all none =
-    λ more may told back is. no_outcome_follows got over all (λ t. none t tt) more may told is
+    no_outcome_follows got over all none
 no_reply (Copy path) got over all none =
-    λ more may told back is. no_outcome_follows got over all (λ t. none t tt) more may told is
+    no_outcome_follows got over all none
 no_reply (RevokeByFingerprint f) got over all none =
-    λ more may told back is. no_outcome_follows got over all (λ t. none t tt) more may told is
+    no_outcome_follows got over all none
 no_reply (Registry command) got over all none =
-    λ more may told back is. no_outcome_follows got over all (λ t. none t tt) more may told is
+    no_outcome_follows got over all none
+
+-- bytes that are the line of no outcome, and not the lines of a health
+pub no_health : (got : List ℕ) → IsNoOutcome got → ¬ IsHealthLine got → IsNone Ping got
+no_health got none other (reply.Outcome told) is = none told is
+no_health got none other (reply.Text text) is = other (subst IsHealthLine (sym is.1) is.0)
 
 -- ---- the end of a list or a catalog
 

@@ -74,14 +74,9 @@ IsReplyTo (Copy path) told got = IsOutcomeIn told got
 IsReplyTo (RevokeByFingerprint f) told got = IsOutcomeIn told got
 IsReplyTo (Registry command) told got = IsOutcomeIn told got
 
--- It is read wherever it came. Of the lines of a health nobody proves that.
-abbrev pub IsReadBack : Ordered → OrderReply → Type 0
-IsReadBack Ping (reply.Text text) = ⊥
-IsReadBack o told = Unit {0}
-
 -- the bytes are no reply to the order
 abbrev pub IsNone : Ordered → List ℕ → Type 0
-IsNone o got = (told : OrderReply) → IsReadBack o told → ¬ IsReplyTo o told got
+IsNone o got = (told : OrderReply) → ¬ IsReplyTo o told got
 
 -- nor are they with any bytes that may follow: none may if the stream is over
 abbrev pub IsNoReply : Ordered → Bool → List ℕ → Type 0

@@ -1,8 +1,9 @@
 -- What was answered since a server began, and the line that tells it.
-use Rattle.std.specs.Prelude.{ℕ, ◌≡◌, ◌+◌, ◌/◌, ◌<◌, ◌++◌, nat_eq, cond, Bool, true, false}
-use Rattle.std.specs.Prelude.{List, [], length, codes, decimal, count_by, Option, Some, None, option_copied, Result, Ok}
-use Rattle.std.specs.Prelude.{Err}
+use Rattle.std.specs.Prelude.{ℕ, ◌≡◌, ◌+◌, ◌/◌, ◌^◌, ◌<◌, ◌++◌, nat_eq, cond, Bool, true, false}
+use Rattle.std.specs.Prelude.{List, [], length, codes, decimal, count_by, Option, Some, None, IfSome, option_copied}
+use Rattle.std.specs.Prelude.{Result, Ok, Err}
 use Rattle.std.specs.FinMap as map
+use Rattle.modver.specs.Time.{IsTime}
 use Rattle.world.specs.Store.{GrewOrFull}
 use Rattle.world.specs.declared.registry.StoreFault.{StoreFault}
 use Rattle.world.specs.declared.registry.StoreFault.TheVariants.{Device}
@@ -122,14 +123,29 @@ begin_behind counts h =
 abbrev pub line_of : Health → List ℕ
 line_of h = begin_behind (counts_text h.tally) h ++ (words_of h.figures ++ shelves_text h.figures)
 
--- the names among the counts are those of shelves
-abbrev pub HasNamesIf : Option Traffic → Type 0
-HasNamesIf None = Unit {0}
-HasNamesIf (Some t) = traffic.HasNames t
+-- its counts have 64 bits, and it began at a time
+pub record IsTally (t : Tally) : Type 0 where
+  pub below : AreBelow (2 ^ 64) t
+  pub since : IsTime t.since
+
+-- what is told of the file, of copies and of shelves are numbers of 64 bits and times
+pub record AreMetrics (f : Metrics) : Type 0 where
+  pub bytes : IfSome f.bytes (λ n. n < 2 ^ 64)
+  pub log : IfSome f.log (λ n. n < 2 ^ 64)
+  pub copied : IfSome f.copied IsTime
+  pub copying : IfSome f.copying (λ far. (far.done < 2 ^ 64) × (far.all < 2 ^ 64))
+  pub shelves : IfSome (option_copied f.traffic) traffic.IsTraffic
+
+-- so it is of a health
+pub record IsHealth (h : Health) : Type 0 where
+  pub tally : IsTally h.tally
+  pub store_failures : h.store_failures < 2 ^ 64
+  pub versions : h.versions < 2 ^ 64
+  pub figures : AreMetrics h.figures
 
 -- lines are a health's
 abbrev pub IsHealthLine : List ℕ → Type 0
-IsHealthLine line = (h : Health) × HasNamesIf (option_copied h.figures.traffic) × (line ≡ line_of h)
+IsHealthLine line = (h : Health) × IsHealth h × (line ≡ line_of h)
 
 -- What a ping comes to: these counts, the failures of the store up to now, and versions that were counted. Or the store
 -- met a fault, or there was no memory.

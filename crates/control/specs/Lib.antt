@@ -4,6 +4,7 @@ pub mod Copying
 pub mod Faults
 pub mod Metrics
 pub mod Health
+pub mod HealthText
 pub mod Hearing
 pub mod Isolated
 pub mod Line

@@ -1,5 +1,5 @@
 -- How often each shelf was published to and fetched from since a server began, and the lines that tell it.
-use Rattle.std.specs.Prelude.{ℕ, ◌≡◌, ◌+◌, ◌-◌, ◌^◌, ◌++◌, min, Bool, true, false, IsTrue, ◌||◌, bytes_eq}
+use Rattle.std.specs.Prelude.{ℕ, ◌≡◌, ◌<◌, ◌+◌, ◌-◌, ◌^◌, ◌++◌, min, Bool, true, false, IsTrue, ◌||◌, bytes_eq}
 use Rattle.std.specs.Prelude.{List, [], All, codes, decimal, Option, Some, None, unwrap_or, Result, Ok, Err}
 use Rattle.std.specs.FinMap as map
 use Rattle.std.specs.List.{flat_map}
@@ -63,6 +63,10 @@ lines_of t = flat_map (λ shelf. shelf_line shelf (map.get t.shelves shelf)) (ma
 abbrev pub is_shelf_name : List ℕ → Bool
 is_shelf_name name = is_team_name name || bytes_eq name common
 
--- all of them are names of shelves
-abbrev pub HasNames : Traffic → Type 0
-HasNames t = All (λ name. IsTrue (is_shelf_name name)) (map.keys t.shelves)
+-- a shelf can have this name, and its counts have 64 bits
+abbrev pub IsShelf : List ℕ × ShelfTraffic → Type 0
+IsShelf e = IsTrue (is_shelf_name e.0) × (e.1.publishes < 2 ^ 64) × (e.1.fetches < 2 ^ 64)
+
+-- so it is of each shelf that has counts, and there are not more than 64 bits tell
+abbrev pub IsTraffic : Traffic → Type 0
+IsTraffic t = All IsShelf (map.entries t.shelves) × (map.len t.shelves < 2 ^ 64)

@@ -5,7 +5,7 @@ ghost use Rattle.control.specs.Asking as spec;
 ghost use Rattle.control.specs.Line.{reply_room};
 ghost use Rattle.control.specs.Listing.{AreLines};
 
-use crate::health::health_line_in;
+use crate::health_text::is_health;
 use crate::line::{Extent, REPLY_ROOM, ReadError, read_reply};
 use engine::write::write_bytes;
 use histories::{Hear, Tell};
@@ -76,7 +76,7 @@ pub fn send<R: Hear, W: Tell>(
 {
     let mut got = send_order(alloc, writer, order)?;
     let read = read_reply(reader, &mut got, extent_of(order));
-    reply_to(alloc, order, got, read)
+    reply_to(order, got, read)
 }
 
 /// Sends the line of an order, of which the reply is still to be read, and returns room for the line of an outcome.
@@ -113,7 +113,6 @@ fn extent_of(order: &Order) -> Extent
 
 /// Returns what came of an order by the bytes that were read, or why nothing is known of it.
 pub fn reply_to(
-    alloc: Global,
     order: &Order,
     got: Vec<u8>,
     read: Result<(), ReadError>,
@@ -121,7 +120,7 @@ pub fn reply_to(
     ensures { spec.RepliesBy (ordered order.now) got.items read result }
 {
     match read {
-        Ok(()) => match reply_in(alloc, order, got) {
+        Ok(()) => match reply_in(order, got) {
             Some(reply) => Ok(reply),
             None => Err(SendError::NoReply),
         },
@@ -130,12 +129,12 @@ pub fn reply_to(
     }
 }
 
-/// Returns what the bytes tell of an order, or None if they are no reply to it. Of a ping None also if memory runs out.
-fn reply_in(alloc: Global, order: &Order, got: Vec<u8>) -> Option<OrderReply>
+/// Returns what the bytes tell of an order, or None if they are no reply to it.
+fn reply_in(order: &Order, got: Vec<u8>) -> Option<OrderReply>
     ensures { spec.ReadsAs (ordered order.now) got.items result }
 {
     match order {
-        Order::Ping => health_in(alloc, got),
+        Order::Ping => health_in(got),
         Order::List(_) => listed_in(got, false),
         Order::Catalog(_) => listed_in(got, true),
         Order::Stop | Order::Copy(_) | Order::RevokeByFingerprint(_) | Order::Registry(_) => {
@@ -154,16 +153,17 @@ fn outcome_in(got: &[u8]) -> Option<OrderReply>
     }
 }
 
-/// Returns the lines of a health, or an outcome, if the bytes are these. None also if memory runs out.
-fn health_in(alloc: Global, got: Vec<u8>) -> Option<OrderReply>
+/// Returns the lines of a health, or an outcome, if the bytes are these. Otherwise None.
+fn health_in(got: Vec<u8>) -> Option<OrderReply>
     ensures { spec.ReadsAs Ping got.items result }
 {
     if let Some(outcome) = read_outcome(&got) {
         return Some(OrderReply::Outcome(outcome));
     }
-    match health_line_in(alloc, &got) {
-        Some(_) => Some(OrderReply::Text(Bytes::new(got))),
-        None => None,
+    if is_health(&got) {
+        Some(OrderReply::Text(Bytes::new(got)))
+    } else {
+        None
     }
 }
 

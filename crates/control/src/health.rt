@@ -1,14 +1,13 @@
 //! What an operator watches, and the lines that tell it.
-ghost use Rattle.std.specs.Prelude.{◌≡◌, ◌++◌, IsTrue, IfOk, IfSome, OnOk, string_bytes, option_copied};
+ghost use Rattle.std.specs.Prelude.{◌≡◌, ◌++◌, IfOk, OnOk, string_bytes, option_copied};
 ghost use Rattle.control.specs.Health as spec;
-ghost use Rattle.control.specs.Health.{IsHealthLine, HasNamesIf, line_of};
+ghost use Rattle.control.specs.Health.{line_of};
 
 use crate::tally::Tally;
-use crate::traffic::{ShelfTraffic, Traffic};
+use crate::traffic::Traffic;
 use interleave::between::CopyProgress;
-use modver::{TimeText, read_time};
+use modver::TimeText;
 use std::alloc::{AllocError, Global};
-use std::str;
 use text::Text;
 
 /// What an operator watches.
@@ -106,16 +105,6 @@ impl<'a> Metrics<'a> {
             None => Ok(()),
         }
     }
-
-    /// Whether the shelves with counts have names that a shelf can have.
-    fn has_names(&self) -> bool
-        ensures { IsTrue result → HasNamesIf (option_copied self.now.traffic) }
-    {
-        match self.traffic {
-            Some(traffic) => traffic.has_names(),
-            None => true,
-        }
-    }
 }
 
 /// Adds a word that tells a time under a name, if there is one. Fails only if memory runs out.
@@ -159,148 +148,4 @@ fn add_number(
     };
     let word = format!(in alloc; "{}{}", name, number)?;
     line.push_str(word.as_str())
-}
-
-/// Returns the bytes as a text if they are the lines of a health, and None otherwise or if memory runs out.
-pub(crate) fn health_line_in(alloc: Global, got: &[u8]) -> Option<Text>
-    ensures same { IfSome result (λ line. line ≡ got.now) }
-    ensures health { IfSome result IsHealthLine }
-{
-    let Ok(text) = str::from_utf8(got) else {
-        return None;
-    };
-    let (first, rest) = text.split_once('\n')?;
-    let traffic = traffic_in(alloc, rest)?;
-    line_with(alloc, first, &traffic, got)
-}
-
-/// Returns the counts that the lines of shelves tell, if they are such lines. None also if memory runs out.
-fn traffic_in(alloc: Global, lines: &str) -> Option<Traffic> {
-    let mut traffic = Traffic::new(alloc);
-    for line in lines.lines() {
-        let (shelf, counts) = shelf_in(line)?;
-        if traffic.put(alloc, shelf, counts).is_err() {
-            return None;
-        }
-    }
-    Some(traffic)
-}
-
-/// Returns the lines of a health if they are these bytes and name shelves. None also if memory runs out.
-fn same_line(alloc: Global, health: &Health, got: &[u8]) -> Option<Text>
-    ensures same { IfSome result (λ line. line ≡ got.now) }
-    ensures health { IfSome result IsHealthLine }
-{
-    if !health.figures.has_names() {
-        return None;
-    }
-    let Ok(line) = health.line(alloc) else {
-        return None;
-    };
-    if line.as_str().as_bytes() == got {
-        Some(line)
-    } else {
-        None
-    }
-}
-
-/// Returns the bytes as a text if they are the lines of the health whose first line has this text and whose shelves
-/// have these counts. None also if memory runs out.
-fn line_with(alloc: Global, first: &str, traffic: &Traffic, got: &[u8]) -> Option<Text>
-    ensures same { IfSome result (λ line. line ≡ got.now) }
-    ensures health { IfSome result IsHealthLine }
-{
-    let mut words = first.split(' ');
-    let connections = number(words.next(), "connections=")?;
-    let succeeded = number(words.next(), "2xx=")?;
-    let refused = number(words.next(), "4xx=")?;
-    let failed = number(words.next(), "5xx=")?;
-    let unanswered = number(words.next(), "unanswered=")?;
-    let store_failures = number(words.next(), "store-failures=")?;
-    let since = time(words.next(), "since=")?;
-    let versions = number(words.next(), "versions=")?;
-    let health = Health {
-        tally: Tally {
-            since,
-            connections,
-            succeeded,
-            refused,
-            failed,
-            unanswered,
-        },
-        store_failures,
-        versions,
-        figures: Metrics {
-            bytes: number_in(first, "bytes="),
-            log: number_in(first, "log="),
-            copied: time_in(first, "copied="),
-            copying: how_far_in(first, "copying="),
-            traffic: Some(traffic),
-        },
-    };
-    same_line(alloc, &health, got)
-}
-
-/// The number that a word of a line gives under a name, if one does.
-fn number_in(line: &str, name: &str) -> Option<u64> {
-    for word in line.split(' ') {
-        if let Some(found) = number(Some(word), name) {
-            return Some(found);
-        }
-    }
-    None
-}
-
-/// The time that a word of a line gives under a name, if one does.
-fn time_in(line: &str, name: &str) -> Option<TimeText> {
-    for word in line.split(' ') {
-        if let Some(found) = time(Some(word), name) {
-            return Some(found);
-        }
-    }
-    None
-}
-
-/// How far a word of a line tells under a name that a copy is, if one does.
-fn how_far_in(line: &str, name: &str) -> Option<CopyProgress> {
-    for word in line.split(' ') {
-        if let Some(found) = how_far(word, name) {
-            return Some(found);
-        }
-    }
-    None
-}
-
-/// The shelf and its counts that a line tells, if it is the line of a shelf.
-fn shelf_in(line: &str) -> Option<(&str, ShelfTraffic)> {
-    let mut words = line.strip_prefix("shelf ")?.split(' ');
-    let shelf = words.next()?;
-    let publishes = number(words.next(), "publishes=")?;
-    let fetches = number(words.next(), "fetches=")?;
-    Some((shelf, ShelfTraffic { publishes, fetches }))
-}
-
-/// The number that a word gives under a name.
-fn number(word: Option<&str>, name: &str) -> Option<u64> {
-    match word?.strip_prefix(name)?.parse() {
-        Ok(number) => Some(number),
-        Err(_) => None,
-    }
-}
-
-/// How far a word tells under a name that a copy is.
-fn how_far(word: &str, name: &str) -> Option<CopyProgress> {
-    let (done, all) = word.strip_prefix(name)?.split_once('/')?;
-    Some(CopyProgress {
-        done: done.parse().ok()?,
-        all: all.parse().ok()?,
-    })
-}
-
-/// The time that a word gives under a name.
-fn time(word: Option<&str>, name: &str) -> Option<TimeText> {
-    match read_time(word?.strip_prefix(name)?) {
-        Ok(time) => Some(time),
-        Err(_) => None,
-    }
 }

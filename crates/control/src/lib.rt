@@ -19,6 +19,7 @@ mod control_reply;
 mod copies;
 mod faults;
 mod health;
+mod health_text;
 pub mod laws;
 mod line;
 mod listing;

@@ -1,8 +1,8 @@
 //! How often each shelf was published to and fetched from.
-ghost use Rattle.std.specs.Prelude.{◌≡◌, ◌++◌, IsTrue, OnErr, OnOk, option_copied, string_bytes};
+ghost use Rattle.std.specs.Prelude.{◌≡◌, ◌++◌, OnErr, OnOk, option_copied, string_bytes};
 ghost use Rattle.std.specs.FinMap as map;
 ghost use Rattle.control.specs.Traffic as spec;
-ghost use Rattle.control.specs.Traffic.{CountsOne, HasNames, StaysUncounted};
+ghost use Rattle.control.specs.Traffic.{CountsOne, StaysUncounted};
 
 use std::alloc::{AllocError, Global};
 use world::names::{COMMON, is_team_name};
@@ -105,28 +105,6 @@ impl Traffic {
         }
         Ok(())
     }
-
-    /// Whether each shelf with counts has a name that a shelf can have.
-    pub(crate) fn has_names(&self) -> bool
-        ensures { IsTrue result → HasNames self.now }
-    {
-        for shelf in self.shelves.keys() {
-            if !is_shelf_name(shelf.as_str()) {
-                return false;
-            }
-        }
-        true
-    }
-
-    /// Puts the counts of a shelf. Fails only if memory runs out.
-    pub(crate) fn put(
-        &mut self,
-        alloc: Global,
-        shelf: &str,
-        counts: ShelfTraffic,
-    ) -> Result<(), AllocError> {
-        self.shelves.insert(String::from_str(alloc, shelf)?, counts)
-    }
 }
 
 /// Adds the line of a shelf with these counts, if there are some. Fails only if memory runs out.
@@ -150,7 +128,7 @@ fn add_line(
 }
 
 /// Whether a shelf can have this name.
-fn is_shelf_name(name: &str) -> bool
+pub(crate) fn is_shelf_name(name: &str) -> bool
     ensures { result ≡ spec.is_shelf_name name.now }
 {
     is_team_name(name) || name == COMMON

@@ -1,13 +1,13 @@
 -- Bytes among others, and the reads of a line.
 use Rattle.std.proofs.Common.{◌≡◌, ◌∙◌, ℕ, ◌+◌, Bool, true, false, IsTrue, ◌↔◌, ◌⊎◌, ◌++◌, List, [], get_or, arith}
-use Rattle.std.proofs.Common.{inl, inr, refl, subst, sym, Result, Ok, Err}
+use Rattle.std.proofs.Common.{inl, inr, refl, subst, sym}
 use Rattle.std.specs.List.{Contains, IsAnyAnswer}
 use Rattle.std.proofs.Math.Dec.{eqb}
 use Rattle.std.proofs.lemmas.Bool.{false≢true, eqb-true, eqb-false}
-use Rattle.histories.specs.Account.{Account, Gives, GivesTo}
-use Rattle.histories.specs.Calls.{CallsRead, Reads}
+use Rattle.histories.specs.Account.{Account, Gives}
+use Rattle.histories.specs.Calls.{Reads}
 use Rattle.histories.proofs.AccountLemmas.{Gives-kept, Gives-none, Gives-trans}
-use Rattle.control.specs.Line.{AsksOnce, AsksWhileOpen, HasEnough, HasTried, ReadsFew}
+use Rattle.control.specs.Line.{AsksOnce, AsksWhileOpen, HasEnough, HasTried}
 
 -- a search finds a byte just if the bytes contain it
 pub has_byte : (x : ℕ) (bytes : List ℕ) (r : Bool) → IsAnyAnswer (λ y b. eqb y x ≡ b) bytes r
@@ -19,27 +19,7 @@ has_byte x bytes false none = (
       absurd (eqb-false (get_or bytes there.0 x) x (none there.0 x (omega arith) there.1) there.2),
 )
 
--- ---- one read
-
-module _ {E : Type 0} (came came_new : Account) (reads reads_new : Reads) where
-  -- a call to read begins one read at most
-  pub once_read : (n : Result ℕ E) (buf : List ℕ) → GivesTo came came_new n buf → CallsRead reads reads_new n buf
-      → AsksOnce came came_new reads reads_new
-  once_read (Ok n) buf gives calls = inr (subst (Gives came came_new) (sym calls.1) gives.0)
-  once_read (Err e) buf gives (more, inl none) = inl (none, gives.0)
-  once_read (Err e) buf gives (more, inr began) = inr (subst (Gives came came_new) (sym began.1) gives.0)
-
-  -- a call that failed spends no read that gave nothing
-  pub few_failed : (e : E) (buf : List ℕ) (len : ℕ) → CallsRead reads reads_new (Err e) buf
-      → ReadsFew 0 reads reads_new len len
-  few_failed e buf len (more, inl none) = omega (arith, more, none.0)
-  few_failed e buf len (more, inr began) = omega (arith, more, began.0)
-
--- ---- the reads of a line
-
--- a test that says no, of what it decides
-pub not_so : {X : Type 0} (r : Bool) → IsTrue r ↔ X → r ≡ false → ¬ X
-not_so r both says = λ x. false≢true (sym says ∙ both.1 x)
+-- ---- reads of a line
 
 -- no line has ended in no bytes
 pub none_enough : (most : ℕ) → ¬ HasEnough most []

@@ -1,4 +1,4 @@
-use Rattle.std.proofs.Common.{true, false, refl, ◌∙◌}
+use Rattle.std.proofs.Common.{true, false, ◌∙◌}
 use Rattle.sqlite.specs.Held.{state}
 use Rattle.tables.proofs.FailureLemmas.{was_clean}
 use Rattle.statements.proofs.CallLemmas.{spares_then}

@@ -43,7 +43,7 @@ impl Seen {
 pub enum Step {
     /// It was accepted after a poll.
     Accepted,
-    /// It was waited for, without a poll, and accepted.
+    /// It was waited for and accepted, in one step.
     Awaited,
     /// It is left: nothing more is written to it.
     Left,
@@ -72,7 +72,7 @@ pub enum ListenerCall<C> {
     Nobody(Listener),
     /// An accept failed.
     Unaccepted,
-    /// A peer was waited for without a poll, and that failed.
+    /// A peer was to be waited for and accepted in one step, and that failed.
     Unawaited,
     /// Nothing was asked: after the most polls, nobody is waited for any more.
     GivenUp,

@@ -34,7 +34,6 @@ pub(crate) fn listener_at(
 }
 
 /// The listener that standard input is. It fails if that is no TCP socket that listens.
-/// Whether a socket waits is shared with the processes that had it before, so it is set anew.
 fn input_listener(rt: &HostRuntime) -> io::Result<TcpListener> {
     let input = rt.stdin();
     let stream = TcpStream::from(input.as_fd().try_clone_to_owned()?);
@@ -43,19 +42,49 @@ fn input_listener(rt: &HostRuntime) -> io::Result<TcpListener> {
     }
     let listener = TcpListener::from(OwnedFd::from(stream));
     let _address = listener.local_addr()?;
-    listener.set_nonblocking(false)?;
     Ok(listener)
 }
 
-/// Polls a socket for writability, once. Of sockets that have no peer, all are writable but those that listen.
-fn may_be_written(rt: &HostRuntime, stream: &TcpStream) -> io::Result<bool> {
+/// Waits for the next connection of a listener, and returns it. Fails if the system does.
+///
+/// Whether an accept waits is shared by all processes that have the socket. If this one does not, because another
+/// process has it so or took the connection, the listener is polled.
+pub(crate) fn next_stream(rt: &HostRuntime, peers: &TcpListener) -> io::Result<TcpStream> {
+    for _ in 0..u64::MAX {
+        match TcpListener::accept(peers) {
+            Ok((stream, _)) => return Ok(stream),
+            Err(error) if error.kind() == ErrorKind::WouldBlock => {
+                let _waited = is_ready(rt, peers.as_raw_fd(), Interest::READABLE, None)?;
+            }
+            Err(error) => return Err(error),
+        }
+    }
+    Err(io::Error::from(ErrorKind::Other))
+}
+
+/// Polls a socket once, and returns whether it was named. Waits for that at most so long, or as long as it takes.
+/// Fails if the system does.
+fn is_ready(
+    rt: &HostRuntime,
+    fd: i32,
+    interest: Interest,
+    longest: Option<Duration>,
+) -> io::Result<bool> {
     let mut poll = Poll::new(rt)?;
     let mut events = Events::with_capacity(rt.alloc(), 1)?;
-    poll.registry().register(
-        &mut SourceFd(&stream.as_raw_fd()),
-        Token(0),
-        Interest::WRITABLE,
-    )?;
-    poll.poll(&mut events, Some(Duration::ZERO))?;
+    poll.registry()
+        .register(&mut SourceFd(&fd), Token(0), interest)?;
+    poll.poll(&mut events, longest)?;
     Ok(events.iter().next().is_some())
+}
+
+/// Whether a socket may be written to. Of sockets that have no peer, all may but those that listen. Fails if the
+/// system does.
+fn may_be_written(rt: &HostRuntime, stream: &TcpStream) -> io::Result<bool> {
+    is_ready(
+        rt,
+        stream.as_raw_fd(),
+        Interest::WRITABLE,
+        Some(Duration::ZERO),
+    )
 }

@@ -8,7 +8,7 @@ use crate::connection::Peer;
 use crate::deed::ListenOn;
 use crate::listener_call::{CallLog, Listener, ListenerCall, Seen, Step};
 use crate::listeners::Listeners;
-use crate::listening::listener_at;
+use crate::listening::{listener_at, next_stream};
 use crate::polled::PolledEntrances;
 use crate::socket_file::{SocketFile, operators_at, remove_socket};
 use crate::sockets::{Sockets, SystemCaller, SystemOperator, SystemPeer};
@@ -112,17 +112,14 @@ impl Open {
         }
     }
 
-    /// Waits for the next peer, without a poll. Fails if the system does, and where others may come in.
-    fn wait_for_peer(&mut self) -> io::Result<SystemPeer>
+    /// Waits for the next peer. Fails if the system does, and where others may come in.
+    fn wait_for_peer(&mut self, rt: &HostRuntime) -> io::Result<SystemPeer>
         ensures { IfOk result (λ peer. IsUnheard
             ⟦<SystemPeer as Peer>⟧.came ⟦<SystemPeer as Peer>⟧.written
             ⟦<SystemOperator as Peer>⟧.came ⟦<SystemOperator as Peer>⟧.written (Caller.Peer peer)) }
     {
         match self {
-            Open::ToPeers(peers) => {
-                let (stream, _) = TcpListener::accept(peers)?;
-                over_tcp(stream)
-            }
+            Open::ToPeers(peers) => over_tcp(next_stream(rt, peers)?),
             _ => Err(io::Error::from(ErrorKind::NotConnected)),
         }
     }
@@ -211,7 +208,7 @@ impl<'a> Listeners<SystemPeer, SystemOperator> for SystemListeners<'a> {
     }
 
     fn wait_for_peer(&mut self) -> io::Result<SystemPeer> {
-        match self.open.wait_for_peer() {
+        match self.open.wait_for_peer(self.rt) {
             Ok(peer) => Ok(self.log.note_peer(Step::Awaited, peer)),
             Err(error) => {
                 self.log.note(b"", &ListenerCall::Unawaited);

@@ -9,7 +9,8 @@ use std::time::Duration;
 
 /// The listeners of peers and operators, and the connections that they accept.
 ///
-/// Each method asks the system for one thing, and notes what it asked and what came of it.
+/// Each method asks the system for one thing, and notes what it asked and what came of it. `give_up` and `leave` ask
+/// for nothing.
 pub trait Listeners<P: Peer, O: Peer> {
     ghost use Rattle.std.specs.Prelude.{◌≡◌, [], ◌∷◌, List, IfOk, IfSome};
     ghost use Rattle.socket.specs.History.{IsBoundFor, IsUnheard};

@@ -33,7 +33,8 @@ pub struct PolledEntrances<P: Peer, O: Peer, L: Listeners<P, O>> {
     /// The socket of operators, once it is made.
     made: Option<SocketFile>,
     callers: PhantomData<Caller<P, O>>,
-    ghost kept: { IsKept (L.calls listeners) peer_waits operator_waits left made } by { IsKept-prop (L.calls listeners) peer_waits operator_waits left made },
+    ghost kept: { IsKept (L.calls listeners) peer_waits operator_waits left made } by { IsKept-prop
+        (L.calls listeners) peer_waits operator_waits left made },
 }
 
 impl<P: Peer, O: Peer, L: Listeners<P, O>> PolledEntrances<P, O, L> {

@@ -20,7 +20,7 @@ use Rattle.keyring.specs.KeyList.{fingerprint}
 use Rattle.modver.specs.SemanticVersion.{version_text}
 use Rattle.control.specs.Notices.{Answer, Occasion, Opened, Uncounted, Ordered, Copied, Catalogued, Answered, Reserved, Met}
 use Rattle.control.specs.Notices.{Ended, Lost, EndsLine, IsNotice, IsPiece, NoneIsRefusal, WritesLines, WritesNotices}
-use Rattle.control.specs.Notices.{AreAny, behind_team, errand_words}
+use Rattle.control.specs.Notices.{behind_team, errand_words}
 use Rattle.control.specs.Notices.{has_group, has_shelf, joined, line_of, name_if, plain, right_words, shown_words}
 use Rattle.control.specs.Outcome.{outcome_of, outcome_of_catalog, outcome_of_copy}
 use Rattle.orders.specs.Outcome as outcome
@@ -171,10 +171,6 @@ written_so one two a b other first = record {
     })
   ];
 }
-
-pub any_written : {are : List (List ℕ) → Type 0} (a b : Option (List ℕ) × calls.Writes) → WritesLines are a b
-    → WritesLines AreAny a b
-any_written {are} a b written = written_so are AreAny a b (λ lines so. tt) written
 
 -- ---- no line begins with a `g`
 

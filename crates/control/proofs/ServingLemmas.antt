@@ -17,7 +17,7 @@ use Rattle.socket.specs.History.{Door, Ends, Takes, TakesNone}
 use Rattle.control.specs.Copying.{Making, tasks_in, has_read, AllRead, GoesThroughSteps, IsBusy, IsOnlyRead}
 use Rattle.control.specs.Health.{IsPinged, tally_of}
 use Rattle.control.specs.Hearing as hearing
-use Rattle.control.specs.Notices.{AreAny, WritesLines}
+use Rattle.control.specs.Notices.{AreOfServer, IsServerLine, WritesLines}
 use Rattle.control.specs.Progress.{IsOver}
 use Rattle.control.specs.Serving.{AllTold, EndsBy, Instant, ObeysMeanwhile}
 use Rattle.control.specs.Serving.{Serves, ServesMeanwhile, ServesPeer, TakesTurn}
@@ -167,7 +167,7 @@ module _ {P O : Type 0} (heeded : O → Account × Reads) (told : O → Option (
 
       -- a peer
       pub serves_peer : (mid : Door (Caller P O)) (peer : P) → Takes door mid (Peer peer) → is_new (Peer peer) → p.stops ≡ false
-          → ServesPeer heard written peer mid end p q (shown s) (shown t) → WritesLines AreAny e f
+          → ServesPeer heard written peer mid end p q (shown s) (shown t) → WritesLines AreOfServer e f
           → From read door end p q e f s t
       unfolding serves_one
       serves_peer mid peer takes fresh going next written_lines =
@@ -181,7 +181,7 @@ module _ {P O : Type 0} (heeded : O → Account × Reads) (told : O → Option (
           (λ h w stands. no_reads shown made counted w (exchanges_of first))
           next.tally tt next.left next.taken
           (goes_on p.stops q.stops going next.stops (OfPeer visit next.answered) (λ never. never))
-          (traces_peer {P = P} {O = O} (OfPeer visit next.answered) e f (λ lines any. tt) written_lines)
+          (traces_peer {P = P} {O = O} (OfPeer visit next.answered) e f (λ lines of. of) written_lines)
 
       -- a connection that could not be taken
       pub serves_untaken : TakesNone door end → p.stops ≡ false → q.tally ≡ p.tally → p.left ≡ q.left + 1
@@ -192,7 +192,8 @@ module _ {P O : Type 0} (heeded : O → Account × Reads) (told : O → Option (
           (subst (λ x. GoesThroughSteps (shown s) (shown x) []) same (tasks_none (shown s)))
           (λ h w stands. tt) tally tt left taken
           (goes_on p.stops q.stops going stops Untaken (λ never. never))
-          (traces_peer {P = P} {O = O} Untaken e f (λ lines any. tt) (subst (WritesLines AreAny e) kept (none_written AreAny e tt)))
+          (traces_peer {P = P} {O = O} Untaken e f (λ lines of. of)
+          (subst (WritesLines AreOfServer e) kept (none_written AreOfServer e (All-nil IsServerLine))))
 
       -- an operator, who ordered no copy
       pub serves_operator : (mid : Door (Caller P O)) (idle : Type 0) (meanwhile : Making → Type 0)

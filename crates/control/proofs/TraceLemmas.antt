@@ -1,11 +1,12 @@
 -- A line for each order, among lines that were written one after another.
 use Rattle.std.proofs.Common.{◌≡◌, ◌∙◌, ℕ, List, [], ◌∷◌, ◌++◌, Option, Some, None, Result, Ok, Err, ap, refl, subst, sym}
 use Rattle.std.proofs.Common.{append_assoc, inl, inr}
+use Rattle.std.proofs.lemmas.List.Elements.{All-append, All-nil}
 use Rattle.histories.specs.Calls.{Writes}
 use Rattle.engine.specs.declared.fault.Io.{Io}
 use Rattle.control.specs.Hearing.{Heard, done_notice}
 use Rattle.control.specs.Noted.{AreOf, BeginsWith, IsAbout, IsNoted, Noted, NotesTold, noted_line}
-use Rattle.control.specs.Notices.{AreAny, Occasion, WritesLines}
+use Rattle.control.specs.Notices.{AreOfServer, IsServerLine, Occasion, WritesLines}
 use Rattle.control.specs.Traces.{HasLineFor, HasTrace, HasTraces, IsDoneNoted, IsLineFor, WritesTrace}
 use Rattle.control.specs.Traces.{occasion_of, or_told}
 use Rattle.control.specs.Visits.{Audience, Call, OfOperator, OfPeer, Untaken}
@@ -43,31 +44,31 @@ line_back (Some about) lines rest others (front, line, back, is, left, so) = (
 -- ---- lines of all callers
 
 module _ {P O : Type 0} where
-  traces_front : (calls : List (Call P O)) (others lines : List (List ℕ)) → HasTraces calls lines
+  traces_front : (calls : List (Call P O)) (others lines : List (List ℕ)) → AreOfServer others → HasTraces calls lines
       → HasTraces calls (others ++ lines)
-  traces_front [] others lines has = tt
-  traces_front (OfPeer visit answered ∷ calls) others lines has = traces_front calls others lines has
-  traces_front (OfOperator x ∷ calls) others lines (rest, one, more) = (
+  traces_front [] others lines of has = All-append IsServerLine others lines of has
+  traces_front (OfPeer visit answered ∷ calls) others lines of has = traces_front calls others lines of has
+  traces_front (OfOperator x ∷ calls) others lines of (rest, one, more) = (
     others ++ rest,
     line_front (occasion_of x.heard x.told) others lines rest one,
-    traces_front calls others rest more,
+    traces_front calls others rest of more,
   )
-  traces_front (Untaken ∷ calls) others lines has = traces_front calls others lines has
+  traces_front (Untaken ∷ calls) others lines of has = traces_front calls others lines of has
 
-  traces_back : (calls : List (Call P O)) (lines others : List (List ℕ)) → HasTraces calls lines
+  traces_back : (calls : List (Call P O)) (lines others : List (List ℕ)) → AreOfServer others → HasTraces calls lines
       → HasTraces calls (lines ++ others)
-  traces_back [] lines others has = tt
-  traces_back (OfPeer visit answered ∷ calls) lines others has = traces_back calls lines others has
-  traces_back (OfOperator x ∷ calls) lines others (rest, one, more) = (
+  traces_back [] lines others of has = All-append IsServerLine lines others has of
+  traces_back (OfPeer visit answered ∷ calls) lines others of has = traces_back calls lines others of has
+  traces_back (OfOperator x ∷ calls) lines others of (rest, one, more) = (
     rest ++ others,
     line_back (occasion_of x.heard x.told) lines rest others one,
-    traces_back calls rest others more,
+    traces_back calls rest others of more,
   )
-  traces_back (Untaken ∷ calls) lines others has = traces_back calls lines others has
+  traces_back (Untaken ∷ calls) lines others of has = traces_back calls lines others of has
 
   traces_both : (xs ys : List (Call P O)) (lines others : List (List ℕ)) → HasTraces xs lines → HasTraces ys others
       → HasTraces (xs ++ ys) (lines ++ others)
-  traces_both [] ys lines others one two = traces_front ys lines others two
+  traces_both [] ys lines others one two = traces_front ys lines others one two
   traces_both (OfPeer visit answered ∷ xs) ys lines others one two = traces_both xs ys lines others one two
   traces_both (OfOperator x ∷ xs) ys lines others (rest, one, more) two = (
     rest ++ others,
@@ -84,9 +85,9 @@ module _ {P O : Type 0} where
 
   -- a peer
   pub traces_peer : (call : Call P O) (a b : Option (List ℕ) × Writes)
-      → ((lines : List (List ℕ)) → AreAny lines → HasTraces (call ∷ []) lines)
-      → WritesLines AreAny a b → WritesLines (HasTraces (call ∷ [])) a b
-  traces_peer call a b so written = written_so AreAny (HasTraces (call ∷ [])) a b so written
+      → ((lines : List (List ℕ)) → AreOfServer lines → HasTraces (call ∷ []) lines)
+      → WritesLines AreOfServer a b → WritesLines (HasTraces (call ∷ [])) a b
+  traces_peer call a b so written = written_so AreOfServer (HasTraces (call ∷ [])) a b so written
 
   -- an operator, whose line was written after those of others
   pub traces_around : (x : Audience O) (calls : List (Call P O)) (a b c : Option (List ℕ) × Writes)
@@ -97,19 +98,19 @@ module _ {P O : Type 0} where
       (λ lines others has one. (
         lines ++ one.0,
         line_front (occasion_of x.heard x.told) lines others one.0 one.1,
-        traces_back calls lines one.0 has,
+        traces_back calls lines one.0 one.2 has,
       )) among own
 
 -- nobody
 pub traces_none : (P O : Type 0) (a : Option (List ℕ) × Writes) → WritesLines (HasTraces {P = P} {O = O} []) a a
-traces_none P O a = none_written (HasTraces {P = P} {O = O} []) a tt
+traces_none P O a = none_written (HasTraces {P = P} {O = O} []) a (All-nil IsServerLine)
 
 -- an operator
 pub traces_operator : (P : Type 0) {O : Type 0} (x : Audience O) (a b : Option (List ℕ) × Writes)
     → WritesTrace x.heard x.told a b → WritesLines (HasTraces {P = P} {O = O} (OfOperator x ∷ [])) a b
 traces_operator P {O} x a b written =
     written_so (HasTrace x.heard x.told) (HasTraces {P = P} {O = O} (OfOperator x ∷ [])) a b
-    (λ lines one. (one.0, one.1, tt)) written
+    (λ lines one. one) written
 
 -- ---- the line of an order
 
@@ -158,4 +159,5 @@ trace_of heard said done noted a b is notes written =
       subst (λ l. HasLineFor (occasion_of heard said) l begins.1) (sym begins.2)
           (own_line (occasion_of heard said) noted begins.0 begins.1 (noted_for heard said done noted is notes)
           begins.3),
+      begins.4,
     )) written

@@ -6,7 +6,7 @@ use Rattle.std.specs.declared.alloc.AllocError.{AllocError}
 use Rattle.engine.specs.declared.fault.Io.{Io}
 use Rattle.world.specs.declared.registry.StoreFault.{StoreFault}
 use Rattle.control.specs.Faults.{Admits}
-use Rattle.control.specs.Notices.{Answered, Lost, Met, Occasion, Reserved, line_of, room_told}
+use Rattle.control.specs.Notices.{Answered, AreOfServer, Lost, Met, Occasion, Reserved, line_of, room_told}
 use Rattle.control.specs.Reserve.{is_whole}
 use Rattle.control.specs.Traffic.{CountsOne, StaysUncounted, was_published}
 use Rattle.control.specs.declared.faults.RecentFaults.{RecentFaults}
@@ -100,6 +100,7 @@ AreOfRoom old new lines =
     ⊎ ((new ≢ old) × (told : Noted) × IsAbout (Reserved (room_told (is_whole new))) (Some told)
     × (lines ≡ noted_line told ∷ []))
 
--- these lines come first, and then others
+-- these lines come first, and then others, which are about no order
 abbrev pub BeginsWith : Option Noted → List (List ℕ) → Type 0
-BeginsWith noted lines = (own : List (List ℕ)) × (rest : List (List ℕ)) × (lines ≡ own ++ rest) × AreOf noted own
+BeginsWith noted lines =
+    (own : List (List ℕ)) × (rest : List (List ℕ)) × (lines ≡ own ++ rest) × AreOf noted own × AreOfServer rest

@@ -206,9 +206,20 @@ pub record WritesWhole (are : List (List ℕ) → Type 0) (old new : Option (Lis
   pub writes : Appends old.0 new.0 (joined lines)
   pub flushed : old.1.unflushed ≡ [] → new.1.unflushed ≡ []
 
--- whichever lines they are
-abbrev pub AreAny : List (List ℕ) → Type 0
-AreAny lines = Unit {0}
+-- a line is about this though nobody gave an order: room on the disk, a fault that a store met, or lack of memory
+abbrev pub IsOfServer : Occasion → Type 0
+IsOfServer (Reserved told) = Unit {0}
+IsOfServer (Met asked fault) = Unit {0}
+IsOfServer Lost = Unit {0}
+IsOfServer other = ⊥
+
+-- a text is such a line
+abbrev pub IsServerLine : List ℕ → Type 0
+IsServerLine line = ∥ ((about : Occasion) × IsOfServer about × (line ≡ line_of about)) ∥₁
+
+-- so is each of these
+abbrev pub AreOfServer : List (List ℕ) → Type 0
+AreOfServer lines = All IsServerLine lines
 
 -- so it was, or a call to write or to flush failed
 pub record WritesLines (are : List (List ℕ) → Type 0) (old new : Option (List ℕ) × Writes) : Type 0 where

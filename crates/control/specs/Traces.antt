@@ -9,7 +9,7 @@ use Rattle.socket.specs.declared.callers.Caller.{Caller}
 use Rattle.control.specs.Copying.{Making}
 use Rattle.control.specs.Hearing.{Heard, done_notice}
 use Rattle.control.specs.Noted.{IsNoted, Noted}
-use Rattle.control.specs.Notices.{Answered, Lost, Occasion, WritesLines, line_of}
+use Rattle.control.specs.Notices.{Answered, AreOfServer, Lost, Occasion, WritesLines, line_of}
 use Rattle.control.specs.Visits.{Call, EndsEach, OfOperator, OfPeer, Untaken}
 use Rattle.control.specs.declared.control_reply.ControlReply.{ControlReply}
 use Rattle.control.specs.declared.control_reply.ControlReply.TheVariants as spoken
@@ -43,17 +43,18 @@ HasLineFor (Some about) lines rest =
     (front : List (List ℕ)) × (line : List ℕ) × (back : List (List ℕ))
     × (lines ≡ front ++ line ∷ back) × (rest ≡ front ++ back) × IsLineFor about line
 
--- the lines have one for an operator's order
+-- the lines have one for an operator's order, and the others are about no order
 abbrev pub HasTrace : Option Heard → Result ControlReply Io → List (List ℕ) → Type 0
-HasTrace heard said lines = (rest : List (List ℕ)) × HasLineFor (occasion_of heard said) lines rest
+HasTrace heard said lines =
+    (rest : List (List ℕ)) × HasLineFor (occasion_of heard said) lines rest × AreOfServer rest
 
 -- a line was written for an operator's order, unless a write or a flush failed
 abbrev pub WritesTrace : Option Heard → Result ControlReply Io → (old new : Option (List ℕ) × Writes) → Type 0
 WritesTrace heard said old new = WritesLines (HasTrace heard said) old new
 
--- the lines have one for each operator: no two orders share one
+-- the lines have one for each operator: no two orders share one, and the others are about no order
 abbrev pub HasTraces : {P O : Type 0} → List (Call P O) → List (List ℕ) → Type 0
-HasTraces [] lines = Unit {0}
+HasTraces [] lines = AreOfServer lines
 HasTraces (OfPeer visit answered ∷ calls) lines = HasTraces calls lines
 HasTraces (OfOperator x ∷ calls) lines =
     (rest : List (List ℕ)) × HasLineFor (occasion_of x.heard x.told) lines rest × HasTraces calls rest

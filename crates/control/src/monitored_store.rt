@@ -1,8 +1,10 @@
 //! A store that is served, with what has to be said of it.
 ghost use Rattle.std.specs.Prelude.{◌≡◌, None, option_copied, true, Err};
 ghost use Rattle.std.specs.FinMap as map;
+ghost use Rattle.std.specs.Option.{ForSome};
 ghost use Rattle.control.specs.Metrics.{TellsKept};
-ghost use Rattle.control.specs.Noted.{CountsIf, CountsOrNotes, CountsUnheld, CountsUnmet, NotesFault};
+ghost use Rattle.control.specs.Noted.{CountsIf, CountsOrNotes, CountsUnheld, CountsUnmet, NotesFault, noted_line};
+ghost use Rattle.control.specs.Notices.{IsServerLine};
 ghost use Rattle.control.specs.Traffic.{was_found, was_published};
 ghost use Rattle.control.specs.declared.store_call.StoreCall.TheVariants as errand;
 ghost use Rattle.modver.specs.SemanticVersion.{version_text};
@@ -59,6 +61,7 @@ pub(crate) struct MonitoredStore<'a, N: Loan, S: Shelves> {
     pub(crate) is_held: bool,
     loan: PhantomData<N>,
     ghost same: { inner.ghost_name ≡ N.name },
+    ghost of_server: { ForSome notice (λ noted. IsServerLine (noted_line noted)) },
 }
 
 impl<'a, N: Loan, S: Shelves> MonitoredStore<'a, N, S> {

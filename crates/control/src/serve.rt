@@ -79,8 +79,8 @@ pub fn serve_both<
         shelves.old shelves.new since connections }
     // Only notices are written to `errors`.
     ensures notes { WritesNotices (E.contents errors.old) (E.contents errors.new) }
-    // Each order has a line of its own there, that of its notice or one which says that memory ran out for it, unless a
-    // write or a flush failed.
+    // Each order has a line of its own there, that of its notice or one which says that memory ran out for it, and no
+    // other line is about an order, unless a write or a flush failed.
     ensures traces { TracesEach (both O.came O.reads) (both O.written O.writes)
         (both P.came P.reads) (both P.written P.writes) S.shown K.made K.counted L.is_new
         (both L.waiting L.history callers.old) (both L.waiting L.history callers.new)

@@ -3,7 +3,7 @@ ghost use Rattle.std.specs.Prelude.{◌≡◌, ◌↔◌, [], false, IsTrue, Non
 ghost use Rattle.socket.specs.Connections.{both};
 ghost use Rattle.control.specs.Health.{tally_of};
 ghost use Rattle.control.specs.Noted.{AreOfRoom, AreUnheld, BeginsWith};
-ghost use Rattle.control.specs.Notices.{AreAny, WritesLines, WritesNotices};
+ghost use Rattle.control.specs.Notices.{AreOfServer, WritesLines, WritesNotices};
 ghost use Rattle.control.specs.Progress.{IsGoing};
 ghost use Rattle.control.specs.Visits.{AnswersOne};
 
@@ -128,8 +128,8 @@ impl<
             self.old.progress self.new.progress (S.shown watched.old.inner.now) (S.shown watched.new.inner.now) }
         ensures same { self.new.callers.ghost_name ≡ self.old.callers.ghost_name }
         ensures notes { WritesNotices (E.contents self.old.errors.now) (E.contents self.new.errors.now) }
-        // Lines are written whole, unless a write or a flush failed.
-        ensures tells { WritesLines AreAny
+        // Lines are written whole, unless a write or a flush failed. No order has one of them.
+        ensures tells { WritesLines AreOfServer
             (both E.contents E.writes self.old.errors.now) (both E.contents E.writes self.new.errors.now) }
         ensures same_errors { self.new.errors.ghost_name ≡ self.old.errors.ghost_name }
     {

@@ -10,6 +10,8 @@ use Rattle.histories.specs.Calls.{Reads, no_reads}
 use Rattle.engine.specs.Causes.{IsUnreadable, most_reads}
 use Rattle.network.specs.History.{Calls, Done, deeds_between, deeds_of}
 use Rattle.network.specs.declared.deed.Deed.TheVariants.{Connected, Ended, Unconnected}
+use Rattle.network.specs.declared.servers.Wait.{Wait}
+use Rattle.network.specs.declared.servers.Wait.TheVariants.{Second}
 use Rattle.network.proofs.HistoryLemmas.{called, called_meanwhile}
 use Rattle.orders.specs.Order.{Ordered, Stop, Ping, ListOf, Copy, Catalog, RevokeByFingerprint, Registry}
 use Rattle.control.specs.Asking.{IsNoReply, IsReplyTo, OrderGets, extent_of}
@@ -17,7 +19,8 @@ use Rattle.control.specs.declared.client.OrderReply.{OrderReply}
 use Rattle.control.specs.declared.client.SendError.{SendError}
 use Rattle.control.specs.declared.client.SendError.TheVariants as untold
 use Rattle.control.specs.declared.line.Extent.TheVariants.{Line}
-use Rattle.commands.specs.Connection.{Exchanges, IsAll, Meets, OnlyPings, Passed, Passes, PingsBetween, PingsIf}
+use Rattle.commands.specs.Connection.{Exchanges, IsAll, IsWaitFor, Meets, OnlyPings, Passed, Passes, PingsBetween}
+use Rattle.commands.specs.Connection.{PingsIf}
 
 -- ---- all that passed
 
@@ -81,23 +84,23 @@ copy_has_a_line o to is = ap extent_of is
 
 -- a server was connected to, this passed, and then the connection was ended
 pub meets : {L : Type 0} (all : L → Passed → Type 0) (before made mid after : List (Done L)) (path : List ℕ) (o : Ordered)
-    (By : Passed → Type 0) (link : L) → (p : Passed) × all link p × By p
-    → made ≡ before ++ (path, Connected) ∷ [] → PingsIf all made mid path o → after ≡ mid ++ ([], Ended link) ∷ []
+    (By : Passed → Type 0) (wait : Wait) (link : L) → IsWaitFor o wait → (p : Passed) × all link p × By p
+    → made ≡ before ++ (path, Connected wait) ∷ [] → PingsIf all made mid path o → after ≡ mid ++ ([], Ended link) ∷ []
     → Meets all before after path o By
-meets all before made mid after path (Copy to) By link passes connected between ended =
-    called_meanwhile before made mid after path _ _ link between.0 passes between.1 connected between.2 ended
-meets all before made mid after path Stop By link passes connected still ended =
-    called before mid after path _ link passes (still ∙ connected) ended
-meets all before made mid after path Ping By link passes connected still ended =
-    called before mid after path _ link passes (still ∙ connected) ended
-meets all before made mid after path (ListOf listing) By link passes connected still ended =
-    called before mid after path _ link passes (still ∙ connected) ended
-meets all before made mid after path (Catalog key) By link passes connected still ended =
-    called before mid after path _ link passes (still ∙ connected) ended
-meets all before made mid after path (RevokeByFingerprint f) By link passes connected still ended =
-    called before mid after path _ link passes (still ∙ connected) ended
-meets all before made mid after path (Registry command) By link passes connected still ended =
-    called before mid after path _ link passes (still ∙ connected) ended
+meets all before made mid after path (Copy to) By wait link waits passes connected between ended =
+    called_meanwhile before made mid after path _ _ _ wait link between.0 waits passes between.1 connected between.2 ended
+meets all before made mid after path Stop By wait link waits passes connected still ended =
+    called before mid after path _ _ wait link waits passes (still ∙ connected) ended
+meets all before made mid after path Ping By wait link waits passes connected still ended =
+    called before mid after path _ _ wait link waits passes (still ∙ connected) ended
+meets all before made mid after path (ListOf listing) By wait link waits passes connected still ended =
+    called before mid after path _ _ wait link waits passes (still ∙ connected) ended
+meets all before made mid after path (Catalog key) By wait link waits passes connected still ended =
+    called before mid after path _ _ wait link waits passes (still ∙ connected) ended
+meets all before made mid after path (RevokeByFingerprint f) By wait link waits passes connected still ended =
+    called before mid after path _ _ wait link waits passes (still ∙ connected) ended
+meets all before made mid after path (Registry command) By wait link waits passes connected still ended =
+    called before mid after path _ _ wait link waits passes (still ∙ connected) ended
 
 -- what passed so passed also so
 passes_so : {L : Type 0} (all : L → Passed → Type 0) (By By' : Passed → Type 0) → ((p : Passed) → By p → By' p)
@@ -105,29 +108,41 @@ passes_so : {L : Type 0} (all : L → Passed → Type 0) (By By' : Passed → Ty
 passes_so all By By' so link (p, is, by) = (p, is, so p by)
 
 calls_so : {L : Type 0} (all : L → Passed → Type 0) (before after : List (Done L)) (path : List ℕ)
-    (By By' : Passed → Type 0) → ((p : Passed) → By p → By' p)
-    → Calls before after path (λ link. (p : Passed) × all link p × By p)
-    → Calls before after path (λ link. (p : Passed) × all link p × By' p)
-calls_so all before after path By By' so calls =
-    record { link = calls.link; passes = passes_so all By By' so calls.link calls.passes; done = calls.done }
+    (Waits : Wait → Type 0) (By By' : Passed → Type 0) → ((p : Passed) → By p → By' p)
+    → Calls before after path Waits (λ link. (p : Passed) × all link p × By p)
+    → Calls before after path Waits (λ link. (p : Passed) × all link p × By' p)
+calls_so all before after path Waits By By' so calls = record {
+  wait = calls.wait;
+  waits = calls.waits;
+  link = calls.link;
+  passes = passes_so all By By' so calls.link calls.passes;
+  done = calls.done;
+}
 
 pub meets_so : {L : Type 0} (all : L → Passed → Type 0) (before after : List (Done L)) (path : List ℕ) (o : Ordered)
     (By By' : Passed → Type 0) → ((p : Passed) → By p → By' p) → Meets all before after path o By
     → Meets all before after path o By'
 meets_so all before after path (Copy to) By By' so calls = record {
+  wait = calls.wait;
+  waits = calls.waits;
   link = calls.link;
   passes = passes_so all By By' so calls.link calls.passes;
   between = calls.between;
   each = calls.each;
   done = calls.done;
 }
-meets_so all before after path Stop By By' so calls = calls_so all before after path By By' so calls
-meets_so all before after path Ping By By' so calls = calls_so all before after path By By' so calls
-meets_so all before after path (ListOf listing) By By' so calls = calls_so all before after path By By' so calls
-meets_so all before after path (Catalog key) By By' so calls = calls_so all before after path By By' so calls
+meets_so all before after path Stop By By' so calls =
+    calls_so all before after path _ By By' so calls
+meets_so all before after path Ping By By' so calls =
+    calls_so all before after path _ By By' so calls
+meets_so all before after path (ListOf listing) By By' so calls =
+    calls_so all before after path _ By By' so calls
+meets_so all before after path (Catalog key) By By' so calls =
+    calls_so all before after path _ By By' so calls
 meets_so all before after path (RevokeByFingerprint f) By By' so calls =
-    calls_so all before after path By By' so calls
-meets_so all before after path (Registry command) By By' so calls = calls_so all before after path By By' so calls
+    calls_so all before after path _ By By' so calls
+meets_so all before after path (Registry command) By By' so calls =
+    calls_so all before after path _ By By' so calls
 
 -- ---- pings between
 
@@ -149,14 +164,14 @@ module _ {L : Type 0} (all : L → Passed → Type 0) (path : List ℕ) where
   pub lost_ping : (h i : List (Done L)) → i ≡ h ++ (path, Unconnected) ∷ [] → PingsBetween all h i path
   lost_ping h i lost = (None ∷ [], All-cons IsPing None [] tt (All-nil IsPing), lost)
 
-  pub one_ping : (h i j : List (Done L)) (link : L) → i ≡ h ++ (path, Connected) ∷ []
+  pub one_ping : (h i j : List (Done L)) (link : L) → i ≡ h ++ (path, Connected Second) ∷ []
       → j ≡ i ++ ([], Ended link) ∷ [] → (passed : Passed) × all link passed × OnlyPings passed
       → PingsBetween all h j path
   one_ping h i j link connected ended pings = (
     Some link ∷ [],
     All-cons IsPing (Some link) [] pings (All-nil IsPing),
     ended ∙ ap (λ x. x ++ ([], Ended link) ∷ []) connected
-        ∙ append_assoc h ((path, Connected) ∷ []) (([], Ended link) ∷ []),
+        ∙ append_assoc h ((path, Connected Second) ∷ []) (([], Ended link) ∷ []),
   )
 
   pub then_pings : (h i j : List (Done L)) → PingsBetween all h i path → PingsBetween all i j path

@@ -80,13 +80,14 @@ module _ {L : Type 0} (all : L → Passed → Type 0) (before after : List (Done
   PingsIf (RevokeByFingerprint f) = after ≡ before
   PingsIf (Registry command) = after ≡ before
 
-  -- The server of this path was connected to once, all that passed over the connection is this, and nothing else was
-  -- connected to. While a copy was made, it was also asked for its health, over connections of their own.
+  -- The server of this path was connected to once, each read waited as long as the order says, all that passed over the
+  -- connection is this, and nothing else was connected to. While a copy was made, it was also asked for its health, over
+  -- connections of their own, each read of which waited at most a second.
   abbrev pub Meets : Ordered → (Passed → Type 0) → Type 0
-  Meets (Copy to) By = CallsMeanwhile before after path (Passes all By) (Passes all OnlyPings)
-  Meets Stop By = Calls before after path (Passes all By)
-  Meets Ping By = Calls before after path (Passes all By)
-  Meets (ListOf listing) By = Calls before after path (Passes all By)
-  Meets (Catalog key) By = Calls before after path (Passes all By)
-  Meets (RevokeByFingerprint f) By = Calls before after path (Passes all By)
-  Meets (Registry command) By = Calls before after path (Passes all By)
+  Meets (Copy to) By = CallsMeanwhile before after path (IsWaitFor (Copy to)) (Passes all By) (Passes all OnlyPings)
+  Meets Stop By = Calls before after path (IsWaitFor Stop) (Passes all By)
+  Meets Ping By = Calls before after path (IsWaitFor Ping) (Passes all By)
+  Meets (ListOf listing) By = Calls before after path (IsWaitFor (ListOf listing)) (Passes all By)
+  Meets (Catalog key) By = Calls before after path (IsWaitFor (Catalog key)) (Passes all By)
+  Meets (RevokeByFingerprint f) By = Calls before after path (IsWaitFor (RevokeByFingerprint f)) (Passes all By)
+  Meets (Registry command) By = Calls before after path (IsWaitFor (Registry command)) (Passes all By)

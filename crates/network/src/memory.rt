@@ -38,10 +38,10 @@ impl<'a> Servers<Hearing<&'a [u8]>, Telling<Vec<u8>>> for MemoryServers<'a> {
     fn connect(
         &mut self,
         path: &str,
-        _wait: Wait,
+        wait: Wait,
     ) -> io::Result<Link<Hearing<&'a [u8]>, Telling<Vec<u8>>>> {
         if path == self.path {
-            self.noted.note(path.as_bytes(), &Deed::Connected);
+            self.noted.note(path.as_bytes(), &Deed::Connected(wait));
             return Ok(Link {
                 reader: Hearing::new(self.reply),
                 writer: Telling::new(Vec::new(self.alloc)),

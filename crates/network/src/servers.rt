@@ -37,7 +37,7 @@ pub trait Servers<R: Hear, W: Tell> {
     /// Connects to the server that listens at a path. Each read from it waits so long. Fails if nobody listens there,
     /// or if the system refuses the connection.
     fn connect(&mut self, path: &str, wait: Wait) -> io::Result<Link<R, W>>
-        ensures connected { IfOk result (λ _. history self.new ≡ history self.old ++ (path.now, Connected) ∷ []) }
+        ensures connected { IfOk result (λ _. history self.new ≡ history self.old ++ (path.now, Connected wait) ∷ []) }
         // Nothing has passed over it.
         ensures fresh { IfOk result (λ link. IsUnused (R.account link.reader) (W.contents link.writer)) }
         ensures uncalled { IfOk result (λ link.

@@ -2,6 +2,7 @@
 ghost use Rattle.std.specs.Prelude.{◌≡◌, [], ◌∷◌, ◌++◌, IfOk};
 ghost use Rattle.histories.specs.Account.{IsUnused};
 ghost use Rattle.histories.specs.Calls.{no_reads, no_writes};
+ghost use Rattle.network.specs.Waits.{Lasts};
 ghost use Rattle.network.specs.declared.deed.Deed.TheVariants.{Ended};
 
 use crate::deed::Deed;
@@ -16,8 +17,8 @@ use store_files::record::Record;
 /// A connection to a server of the system.
 pub type SystemLink = Link<Hearing<UnixStream>, Telling<UnixStream>>;
 
-/// The servers that listen at Unix sockets. That this module connects to the path that it notes, that both ends are of
-/// that connection, and that an end closes it, is read and not proved.
+/// The servers that listen at Unix sockets. That this module connects to the path that it notes, with the wait that it
+/// notes, that both ends are of that connection, and that an end closes it, is read and not proved.
 #[derive(Drop)]
 pub struct SystemServers<'a> {
     rt: &'a HostRuntime,
@@ -42,7 +43,7 @@ impl<'a> Servers<Hearing<UnixStream>, Telling<UnixStream>> for SystemServers<'a>
     fn connect(&mut self, path: &str, wait: Wait) -> io::Result<SystemLink> {
         match link_to(self.rt, path, wait) {
             Ok(link) => {
-                self.noted.note(path.as_bytes(), &Deed::Connected);
+                self.noted.note(path.as_bytes(), &Deed::Connected(wait));
                 Ok(link)
             }
             Err(error) => {
@@ -77,7 +78,9 @@ fn link_to(rt: &HostRuntime, path: &str, wait: Wait) -> io::Result<SystemLink>
 }
 
 /// Returns the longest time of a wait, or None if it has none.
-fn longest(wait: Wait) -> Option<Duration> {
+fn longest(wait: Wait) -> Option<Duration>
+    ensures { Lasts wait result }
+{
     match wait {
         Wait::Second => Some(Duration::from_secs(1)),
         Wait::Minute => Some(Duration::from_secs(60)),

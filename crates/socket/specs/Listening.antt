@@ -16,9 +16,9 @@ use Rattle.socket.specs.declared.listener_call.ListenerCall.TheVariants.{Bound, 
 use Rattle.socket.specs.declared.listener_call.ListenerCall.TheVariants.{Polled, Unpolled, Nobody, Unaccepted}
 use Rattle.socket.specs.declared.listener_call.ListenerCall.TheVariants.{GivenUp, Unawaited, Watched, WatchedOperator}
 use Rattle.socket.specs.declared.listener_call.ListenerCall.TheVariants.{Connection, Closed}
-use Rattle.socket.specs.declared.listener_call.Seen.{Seen}
-use Rattle.socket.specs.declared.listener_call.Step.{Step}
-use Rattle.socket.specs.declared.listener_call.Step.TheVariants.{Accepted, Awaited, Left, HungUp}
+use Rattle.socket.specs.declared.listener_call.Ready.{Ready}
+use Rattle.socket.specs.declared.listener_call.Stage.{Stage}
+use Rattle.socket.specs.declared.listener_call.Stage.TheVariants.{Accepted, Awaited, Left, HungUp}
 use Rattle.socket.specs.declared.socket_file.SocketFile.{SocketFile}
 
 -- a call, with the path of the socket that it is about, or with none
@@ -43,7 +43,7 @@ module _ {E : Type 0} where
   made_as (Ok file) = Made file
   made_as (Err e) = Unmade
 
-  abbrev pub polled_for : {C : Type 0} → Option Duration → Result Seen E → ListenerCall C
+  abbrev pub polled_for : {C : Type 0} → Option Duration → Result Ready E → ListenerCall C
   polled_for longest (Ok seen) = Polled longest seen
   polled_for longest (Err e) = Unpolled
 
@@ -68,7 +68,7 @@ module _ {C : Type 0} where
   ended_after [] = None
   ended_after (asked ∷ before) = ended_by asked.1
 
-  abbrev deed_of_step : Step → C → List (Asked C) → Option (Deed C)
+  abbrev deed_of_step : Stage → C → List (Asked C) → Option (Deed C)
   deed_of_step Accepted caller before = Some (deed.Taken caller)
   deed_of_step Awaited caller before = Some (deed.Taken caller)
   deed_of_step Left caller before = None
@@ -113,7 +113,7 @@ is_same Peers Operators = false
 is_same Operators Peers = false
 is_same Operators Operators = true
 
-abbrev pub named_at : Listener → Seen → Bool
+abbrev pub named_at : Listener → Ready → Bool
 named_at Peers seen = seen.peer
 named_at Operators seen = seen.operator
 
@@ -209,7 +209,7 @@ module _ {C : Type 0} where
 
   -- the listeners were polled, for at most so long, or that failed
   abbrev pub Looks : {A E : Type 0} → List (Asked C) → List (Asked C) → Result A E → Type 0
-  Looks old new (Ok x) = (longest : Option Duration) × ((seen : Seen) × (new ≡ ([], Polled longest seen) ∷ old))
+  Looks old new (Ok x) = (longest : Option Duration) × ((seen : Ready) × (new ≡ ([], Polled longest seen) ∷ old))
   Looks old new (Err e) = new ≡ ([], Unpolled) ∷ old
 
   -- Nobody waits at this listener, nor at another where nobody did. Nothing was done, and there was no poll.

@@ -18,7 +18,7 @@ pub enum Listener {
 
 /// What one poll named.
 #[derive(Clone, Copy, Debug, Drop, PartialEq, Eq)]
-pub struct Seen {
+pub struct Ready {
     /// Whether a peer has connected.
     pub peer: bool,
     /// Whether an operator has connected.
@@ -27,10 +27,10 @@ pub struct Seen {
     pub left: bool,
 }
 
-impl Seen {
+impl Ready {
     /// Returns what a poll names that ends with nobody.
-    pub(crate) fn nobody() -> Seen {
-        Seen {
+    pub(crate) fn nobody() -> Ready {
+        Ready {
             peer: false,
             operator: false,
             left: false,
@@ -40,7 +40,7 @@ impl Seen {
 
 /// A step of one connection.
 #[derive(Clone, Copy, Debug, Drop, PartialEq, Eq)]
-pub enum Step {
+pub enum Stage {
     /// It was accepted after a poll.
     Accepted,
     /// It was waited for and accepted, in one step.
@@ -65,7 +65,7 @@ pub enum ListenerCall<C> {
     /// The name of the socket was taken away, if it was still that of this file.
     Removed(Option<SocketFile>),
     /// A poll waited at most so long, and named these.
-    Polled(Option<Duration>, Seen),
+    Polled(Option<Duration>, Ready),
     /// A poll failed.
     Unpolled,
     /// An accept found nobody here.
@@ -81,7 +81,7 @@ pub enum ListenerCall<C> {
     /// The operator who was taken last is watched.
     WatchedOperator,
     /// What was done with the connection of this one, as it was then.
-    Connection(Step, C),
+    Connection(Stage, C),
     /// Nobody comes in any more.
     Closed,
 }
@@ -112,7 +112,7 @@ impl<C> CallLog<C> {
 
 impl<C: Drop> CallLog<C> {
     /// Adds a step of a connection, and returns its caller.
-    pub(crate) fn note_step(&mut self, step: Step, caller: C) -> C
+    pub(crate) fn note_step(&mut self, step: Stage, caller: C) -> C
         ensures same { result ≡ caller }
         ensures noted { reverse self.new.noted.deeds
             ≡ ([], ListenerCall.Connection step caller) ∷ reverse self.old.noted.deeds }
@@ -141,7 +141,7 @@ impl<C: Drop> CallLog<C> {
 
 impl<P: Drop, O: Drop> CallLog<Caller<P, O>> {
     /// Adds a step of the connection of a peer, and returns the peer.
-    pub(crate) fn note_peer(&mut self, step: Step, peer: P) -> P
+    pub(crate) fn note_peer(&mut self, step: Stage, peer: P) -> P
         ensures same { result ≡ peer }
         ensures noted { reverse self.new.noted.deeds
             ≡ ([], ListenerCall.Connection step (Caller.Peer peer)) ∷ reverse self.old.noted.deeds }

@@ -2,7 +2,7 @@
 use crate::callers::Caller;
 use crate::connection::Peer;
 use crate::deed::ListenOn;
-use crate::listener_call::{Listener, Seen};
+use crate::listener_call::{Listener, Ready};
 use crate::socket_file::SocketFile;
 use std::io;
 use std::time::Duration;
@@ -18,7 +18,7 @@ pub trait Listeners<P: Peer, O: Peer> {
     ghost use Rattle.socket.specs.declared.callers.Caller.{Caller};
     ghost use Rattle.socket.specs.declared.callers.Caller.TheVariants.{Peer as OfPeer};
     ghost use Rattle.socket.specs.declared.listener_call.ListenerCall.TheVariants as call;
-    ghost use Rattle.socket.specs.declared.listener_call.Step.TheVariants.{HungUp, Left};
+    ghost use Rattle.socket.specs.declared.listener_call.Stage.TheVariants.{HungUp, Left};
 
     /// The calls so far, the last of them first.
     ghost calls: { Self → List (Asked (Caller P O)) };
@@ -41,7 +41,7 @@ pub trait Listeners<P: Peer, O: Peer> {
     /// Returns who has connected since the last poll, and whether the operator who is watched has left. Waits for that
     /// at most so long, or as long as it takes. Where operators do not come in it names nobody, and fails if it would
     /// wait as long as it takes. Fails if the system does.
-    fn look(&mut self, longest: Option<Duration>) -> io::Result<Seen>
+    fn look(&mut self, longest: Option<Duration>) -> io::Result<Ready>
         ensures { calls self.new ≡ ([], polled_for longest result) ∷ calls self.old };
 
     /// Returns a caller who has connected to this listener, or None if there is none, and waits for none. Fails if the

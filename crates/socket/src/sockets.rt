@@ -6,7 +6,7 @@ ghost use Rattle.socket.specs.declared.listener_call.Listener.TheVariants.{Opera
 
 use crate::callers::Caller;
 use crate::connection::Peer;
-use crate::listener_call::{Listener, Seen};
+use crate::listener_call::{Listener, Ready};
 use histories::{Connection, Socket, over_tcp, over_unix};
 use mio::unix::SourceFd;
 use mio::{Events, Interest, Poll, Token};
@@ -70,9 +70,9 @@ impl Sockets {
 
     /// Returns which listeners somebody has connected to, and whether the operator who is watched has left. Waits for
     /// that at most so long, or as long as it takes. Fails if the system does.
-    pub(crate) fn look(&mut self, longest: Option<Duration>) -> io::Result<Seen> {
+    pub(crate) fn look(&mut self, longest: Option<Duration>) -> io::Result<Ready> {
         self.poll.poll(&mut self.events, longest)?;
-        let mut seen = Seen::nobody();
+        let mut seen = Ready::nobody();
         for event in self.events.iter() {
             let token = event.token();
             if token == OPERATORS {

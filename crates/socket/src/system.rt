@@ -6,7 +6,7 @@ ghost use Rattle.socket.specs.Listening.{IsAt};
 use crate::callers::{Caller, Callers};
 use crate::connection::Peer;
 use crate::deed::ListenOn;
-use crate::listener_call::{CallLog, Listener, ListenerCall, Seen, Step};
+use crate::listener_call::{CallLog, Listener, ListenerCall, Ready, Stage};
 use crate::listeners::Listeners;
 use crate::listening::{listener_at, next_stream};
 use crate::polled::PolledEntrances;
@@ -85,11 +85,11 @@ enum Open {
 impl Open {
     /// Polls both listeners, and waits at most so long. Fails if the system does. Where not both may come in, it names
     /// nobody, or fails if it would wait as long as it takes.
-    fn look(&mut self, longest: Option<Duration>) -> io::Result<Seen> {
+    fn look(&mut self, longest: Option<Duration>) -> io::Result<Ready> {
         match self {
             Open::ToBoth(sockets) => sockets.look(longest),
             _ => match longest {
-                Some(_) => Ok(Seen::nobody()),
+                Some(_) => Ok(Ready::nobody()),
                 None => Err(io::Error::from(ErrorKind::NotConnected)),
             },
         }
@@ -164,7 +164,7 @@ impl<'a> Listeners<SystemPeer, SystemOperator> for SystemListeners<'a> {
         }
     }
 
-    fn look(&mut self, longest: Option<Duration>) -> io::Result<Seen> {
+    fn look(&mut self, longest: Option<Duration>) -> io::Result<Ready> {
         match self.open.look(longest) {
             Ok(seen) => {
                 self.log.note(b"", &ListenerCall::Polled(longest, seen));
@@ -179,7 +179,7 @@ impl<'a> Listeners<SystemPeer, SystemOperator> for SystemListeners<'a> {
 
     fn accept_at(&mut self, at: Listener) -> io::Result<Option<SystemCaller>> {
         match self.open.accept_at(at) {
-            Ok(Some(caller)) => Ok(Some(self.log.note_step(Step::Accepted, caller))),
+            Ok(Some(caller)) => Ok(Some(self.log.note_step(Stage::Accepted, caller))),
             Ok(None) => {
                 self.log.note(b"", &ListenerCall::Nobody(at));
                 Ok(None)
@@ -209,7 +209,7 @@ impl<'a> Listeners<SystemPeer, SystemOperator> for SystemListeners<'a> {
 
     fn wait_for_peer(&mut self) -> io::Result<SystemPeer> {
         match self.open.wait_for_peer(self.rt) {
-            Ok(peer) => Ok(self.log.note_peer(Step::Awaited, peer)),
+            Ok(peer) => Ok(self.log.note_peer(Stage::Awaited, peer)),
             Err(error) => {
                 self.log.note(b"", &ListenerCall::Unawaited);
                 Err(error)
@@ -224,16 +224,16 @@ impl<'a> Listeners<SystemPeer, SystemOperator> for SystemListeners<'a> {
     fn leave(&mut self, caller: SystemCaller) -> SystemCaller
         ensures same { result ≡ caller }
         ensures noted { reverse self.new.log.noted.deeds
-            ≡ ([], ListenerCall.Connection Step.Left caller) ∷ reverse self.old.log.noted.deeds }
+            ≡ ([], ListenerCall.Connection Stage.Left caller) ∷ reverse self.old.log.noted.deeds }
     {
-        self.log.note_step(Step::Left, caller)
+        self.log.note_step(Stage::Left, caller)
     }
 
     fn hang_up(&mut self, caller: SystemCaller)
         ensures { reverse self.new.log.noted.deeds
-            ≡ ([], ListenerCall.Connection Step.HungUp caller) ∷ reverse self.old.log.noted.deeds }
+            ≡ ([], ListenerCall.Connection Stage.HungUp caller) ∷ reverse self.old.log.noted.deeds }
     {
-        let _gone = self.log.note_step(Step::HungUp, caller);
+        let _gone = self.log.note_step(Stage::HungUp, caller);
     }
 
     fn close(&mut self) {

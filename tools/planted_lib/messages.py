@@ -6,7 +6,6 @@ from planted_lib.repository import Unusable
 
 # What a message says of a body.
 REFUTED = "values make the goal false"
-DIFFERS = "the types of a proof and of its goal differ"
 OPEN = "an obligation stays open"
 UNREADABLE = "BAD EDIT: it cannot be read"
 OF_THE_CHECKER = "the fault is the checker's"
@@ -72,8 +71,6 @@ def kind_of(message: str) -> str:
         return NAME_IS_LOST
     if "at which this goal is false" in said:
         return REFUTED
-    if is_of_a_place and re.search(r"types (?:first )?differ|expected type .* but this has type", said):
-        return DIFFERS
     if is_of_a_place or re.search(r"it is not proved that|did not prove", said):
         return OPEN
     return CALLS if re.search(r"it calls|it passes|a call of", said) else ""

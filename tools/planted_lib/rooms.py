@@ -4,6 +4,7 @@ import shutil
 import threading
 
 from planted_lib.bodies import Body
+from planted_lib.goals import Goal, false_goals, open_goals, questions
 from planted_lib.libraries import is_left_by_gate, prove, words_of
 from planted_lib.messages import Said, last_of
 from planted_lib.repository import PARTS, Crate, Unusable, read, write
@@ -52,9 +53,9 @@ class ProvedCrate:
             if not said.is_proved:
                 raise Unusable(f"its functions are not proved as they stand: {last_of(said.text)}")
 
-    def check(self, folder: str, kept: str, functions: list[Function], name: str) -> Said:
+    def check(self, folder: str, kept: str, functions: list[Function], name: str, *flags: str) -> Said:
         """Checks functions of a copy of the crate, or all of it if none is given, over a folder of kept work."""
-        words = [*self.words, "--incremental", kept]
+        words = [*self.words, *flags, "--incremental", kept]
         with SLOTS:
             status, text = run([*words, *(only(self.crate, functions) if self.has_names else [])], folder)
             if status == 2 and functions and self.has_names:
@@ -85,11 +86,27 @@ class Room:
                 if file == path:
                     rows[at - 1] = line
             write(f"{root}/text/{path}", "\n".join(rows))
+        return self.run(bodies, is_whole)
+
+    def run(self, bodies: list[Body], is_whole: bool, *flags: str) -> Said:
+        """Checks the copy as it stands."""
+        root = f"{self.proved.root}/{self.number}"
         self.checks += 1
         functions = [] if is_whole else [function for body in bodies for function in body.functions]
         name = f"{self.number}-{self.checks}"
-        said = self.proved.check(f"{root}/text", f"{root}/kept", functions, name)
+        said = self.proved.check(f"{root}/text", f"{root}/kept", functions, name, *flags)
         if self.proved.keep:
             path = f"{self.proved.keep}/{self.crate.name}-{name}.txt"
             write(path, "".join(f"{body.name}\n" for body in bodies) + f"\n{read(path)}")
         return said
+
+    def false_goals(self, bodies: list[Body], is_whole: bool, said: Said) -> list[Goal]:
+        """Returns which goals of the bodies are false, of those that the last check left open."""
+        text = f"{self.proved.root}/{self.number}/text"
+        goals = open_goals(said, text, bodies)
+        if not goals:
+            return []
+        for path, answers in [*questions(said, text, goals)]:
+            os.makedirs(os.path.dirname(f"{text}/{path}"), exist_ok=True)
+            write(f"{text}/{path}", answers)
+        return false_goals(self.run(bodies, is_whole, "--allow-holes"), goals)

@@ -1,5 +1,7 @@
-"""A store whose name is a link. As with SQLite, its log stands beside the file that the link leads to, and a log beside
-the link is that of no store."""
+"""A store whose name is a link.
+
+As with SQLite, its log stands beside the file that the link leads to, and a log beside the link is that of no store.
+"""
 
 import os
 

@@ -8,6 +8,7 @@ import os
 import signal
 import socket
 import subprocess
+import time
 from collections.abc import Iterator, Sequence
 
 import pytest
@@ -62,6 +63,15 @@ def state_of(process: int) -> bytes:
     return read(f"/proc/{process}/stat").rpartition(b")")[2].split()[0]
 
 
+def is_held(process: int) -> bool:
+    """Whether strace keeps a process stopped for half a second, as where it delays a call."""
+    for _ in range(10):
+        if state_of(process) != b"t":
+            return False
+        time.sleep(0.05)
+    return True
+
+
 @pytest.mark.needs("strace")
 @pytest.mark.parametrize("is_first", [True, False], ids=["begins first", "begins last"])
 def test_operators_do_not_wait_for_a_peer_whom_another_server_took(listener: socket.socket, is_first: bool) -> None:
@@ -77,9 +87,10 @@ def test_operators_do_not_wait_for_a_peer_whom_another_server_took(listener: soc
         # (strace leaves it when it is killed)
         held.callback(os.kill, traced, signal.SIGKILL)
         begun["one.db"].send_signal(signal.SIGSTOP)
+        wait_until(lambda: state_of(begun["one.db"].pid) == b"T")
         with socket.create_connection(listener.getsockname(), timeout=60) as peer:
             peer.sendall(get(LIST))
-            wait_until(lambda: state_of(traced) == b"t")
+            wait_until(lambda: is_held(traced))
             begun["one.db"].send_signal(signal.SIGCONT)
             assert rest_of(peer) == NOT_FOUND
         assert run(["key-list", "--control", CONTROL], timeout=30)[0] == 0

@@ -6,8 +6,8 @@ use std::io::{self, ErrorKind, Read};
 use std::os::unix::fs::MetadataExt;
 use std::rt::HostRuntime;
 
-/// Whether there is such a file, it can be read, and it has bytes. False for a folder, a device or a pipe: it opens none
-/// of them, because opening a pipe waits for whoever writes to it.
+/// Whether there is such a file, it can be read, and it has bytes. False for a folder, a device or a pipe: it opens
+/// none of them, because opening a pipe waits for whoever writes to it.
 pub fn holds_bytes(rt: &HostRuntime, path: &str) -> bool {
     match fs::metadata(rt, path) {
         Ok(found) if found.is_file() => {}

@@ -70,8 +70,8 @@ pub(crate) fn has_lone_log(rt: &HostRuntime, path: &str) -> bool {
     }
 }
 
-/// Whether the log that [`has_lone_log`] finds has the name of the file and `-wal`. It has another one if the file's name
-/// is that of a link. False if memory runs out.
+/// Whether the log that [`has_lone_log`] finds has the name of the file and `-wal`. It has another one if the file's
+/// name is that of a link. False if memory runs out.
 pub(crate) fn has_lone_log_of_name(rt: &HostRuntime, path: &str) -> bool {
     let Ok(log) = log_name(rt, path) else {
         return false;

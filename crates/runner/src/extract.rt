@@ -35,7 +35,8 @@ where
     L: FileChecks,
     F: StoreFiles<OpenedStore, ClosedFile>,
     G: StoreFiles<OpenedStore, ClosedFile>,
-    ensures extracts { ExtractsFile (λ s. ⟦<Found as Shelves>⟧.shown s.shelves) (λ s. ⟦<Found as Shelves>⟧.shown s.shelves)
+    ensures extracts { ExtractsFile (λ s. ⟦<Found as Shelves>⟧.shown s.shelves)
+        (λ s. ⟦<Found as Shelves>⟧.shown s.shelves)
         (record { begins = F.begins; left = F.left; before = F.history files.old; after = F.history files.new })
         (record { begins = G.begins; left = G.left; before = G.history targets.old; after = G.history targets.new })
         db.now (each (λ team. team.now) teams.now) to.now result }

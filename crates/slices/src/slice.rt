@@ -161,8 +161,8 @@ fn copy_next<S: Alter, F: Alter, P: Pace>(
 
 /// Copies entries of the source into the fresh store, inside a transaction, up to where the pace says, and returns
 /// where the walk goes on. It passes over the newcomers. Fails with `Source` or `Fresh`, by the store that failed; with
-/// `DatabaseCorrupt` of the source if there are fewer versions than the cursor counts; and with `SystemIoFailure` of the
-/// fresh store if the pace says that its disk failed.
+/// `DatabaseCorrupt` of the source if there are fewer versions than the cursor counts; and with `SystemIoFailure` of
+/// the fresh store if the pace says that its disk failed.
 pub fn copy_slice<S: Alter, F: Alter, P: Pace>(
     source: &mut Connection<S>,
     tx: &mut Transaction<'_, F>,

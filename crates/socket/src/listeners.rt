@@ -61,7 +61,8 @@ pub trait Listeners<P: Peer, O: Peer> {
     fn watch_operator(&mut self)
         ensures { calls self.new ≡ ([], call.WatchedOperator) ∷ calls self.old };
 
-    /// Waits for the next peer, and returns it. Fails if its connection can't be taken, and where operators come in too.
+    /// Waits for the next peer, and returns it. Fails if its connection can't be taken, and where operators come in
+    /// too.
     fn wait_for_peer(&mut self) -> io::Result<P>
         ensures fresh { IfOk result (λ peer. IsUnheard P.came P.written O.came O.written (OfPeer peer)) }
         ensures noted { calls self.new ≡ ([], awaited_as result) ∷ calls self.old };

@@ -35,6 +35,26 @@ def listener(folder: str) -> Iterator[socket.socket]:
         yield made
 
 
+def state_of(process: int) -> bytes:
+    """Returns the letter of a process's state."""
+    return read(f"/proc/{process}/stat").rpartition(b")")[2].split()[0]
+
+
+def is_held(process: int) -> bool:
+    """Whether strace keeps a process stopped for half a second, as where it delays a call."""
+    for _ in range(10):
+        if state_of(process) != b"t":
+            return False
+        time.sleep(0.05)
+    return True
+
+
+def stop(server: subprocess.Popen[bytes]) -> None:
+    """Stops a server, and waits until it has: before that it may still take a peer."""
+    server.send_signal(signal.SIGSTOP)
+    wait_until(lambda: state_of(server.pid) == b"T")
+
+
 @contextlib.contextmanager
 def served(
     store: str, listener: socket.socket, *more: str, before: Sequence[str] = ()
@@ -53,23 +73,9 @@ def test_server_beside_one_with_operators_takes_its_connections(listener: socket
     """The other one is stopped, so it takes none."""
     port = listener.getsockname()[1]
     with served("one.db", listener, "--connections", "3") as one, served("two.db", listener, *OPERATORS) as two:
-        two.send_signal(signal.SIGSTOP)
+        stop(two)
         assert [exchanged(port, get(LIST)) for _ in range(3)] == [NOT_FOUND] * 3
         assert one.wait(60) == 0
-
-
-def state_of(process: int) -> bytes:
-    """Returns the letter of a process's state."""
-    return read(f"/proc/{process}/stat").rpartition(b")")[2].split()[0]
-
-
-def is_held(process: int) -> bool:
-    """Whether strace keeps a process stopped for half a second, as where it delays a call."""
-    for _ in range(10):
-        if state_of(process) != b"t":
-            return False
-        time.sleep(0.05)
-    return True
 
 
 @pytest.mark.needs("strace")
@@ -86,8 +92,7 @@ def test_operators_do_not_wait_for_a_peer_whom_another_server_took(listener: soc
         traced = int(read(f"/proc/{begun['two.db'].pid}/task/{begun['two.db'].pid}/children").split()[0])
         # (strace leaves it when it is killed)
         held.callback(os.kill, traced, signal.SIGKILL)
-        begun["one.db"].send_signal(signal.SIGSTOP)
-        wait_until(lambda: state_of(begun["one.db"].pid) == b"T")
+        stop(begun["one.db"])
         with socket.create_connection(listener.getsockname(), timeout=60) as peer:
             peer.sendall(get(LIST))
             wait_until(lambda: is_held(traced))

@@ -137,14 +137,14 @@ class TestSteps:
         return {item.rpartition("::")[2] for row in rows for item in re.findall(r"`([\w:]+)`", row)}
 
     def test_the_page_names_functions(self, names: set[str]) -> None:
-        assert {"answer_on", "send_at"} <= names
+        assert {"answer_on", "read_reply"} <= names
 
     def test_the_sources_have_each_of_them(self, proofs: ModuleType, names: set[str]) -> None:
         files = glob.glob("crates/*/src/**/*.rt", root_dir=ROOT, recursive=True)
         defined = re.findall(r"\b(?:fn|trait|struct) (\w+)", "\n".join(map(proofs.read, files)))
         assert names - set(defined) - set(os.listdir(os.path.join(ROOT, "crates"))) == set()
 
-    def test_the_readme_says_so_where_it_says_what_is_proved(self, proofs: ModuleType) -> None:
+    def test_the_readme_says_so(self, proofs: ModuleType) -> None:
         assert "docs/PROOFS.md#from-these-functions-to-the-program" in proofs.read("README.md")
 
 

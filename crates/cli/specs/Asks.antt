@@ -7,7 +7,7 @@ use Rattle.std.specs.Str.Parse.{IsNumeral, digits_value, without_leading_plus}
 use Rattle.clap.specs.Words.{Row, Text, all_of, first_of, one_of}
 use Rattle.clap.specs.Kinds.{IsAmong}
 use Rattle.clap.specs.declared.error.kind.ErrorKind.{ErrorKind}
-use Rattle.clap.specs.declared.error.kind.ErrorKind.TheVariants.{DisplayHelp, DisplayVersion, OutOfMemory}
+use Rattle.clap.specs.declared.error.kind.ErrorKind.TheVariants.{ArgumentConflict, OutOfMemory}
 use Rattle.clap.specs.declared.parser.matches.ValueSource.{ValueSource}
 use Rattle.clap.specs.declared.parser.matches.ValueSource.TheVariants.{CommandLine}
 use Rattle.commands.specs.declared.action.Action.{Action}
@@ -178,10 +178,13 @@ GivenAsks (Some p) asked = AsksCommand p.1 p.0 asked
 abbrev pub Asks : List Text → Command → Type 0
 Asks words asked = (faults words ≡ []) × GivenAsks (given words) asked
 
--- Why a text is shown in place of a run: help and the version only if the words ask for them, a lack of memory for no
--- reason of the words, and every other text only if the words ask for no command.
+-- the tables take the words, and the options fit no form of their command
+abbrev pub FitNoForm : List Text → Type 0
+FitNoForm words = (faults words ≡ []) × ((asked : Command) → GivenAsks (given words) asked → ⊥)
+
+-- Why a text is shown in place of a run: a lack of memory for no reason of the words, that the options fit no form of
+-- their command if they do not, and every other text only if the tables find this in the words.
 abbrev pub IsShownFor : List Text → ErrorKind → Type 0
-IsShownFor words DisplayHelp = IsAmong DisplayHelp (faults words)
-IsShownFor words DisplayVersion = IsAmong DisplayVersion (faults words)
 IsShownFor words OutOfMemory = Unit {0}
-IsShownFor words other = (asked : Command) → Asks words asked → ⊥
+IsShownFor words ArgumentConflict = IsAmong ArgumentConflict (faults words) ⊎ FitNoForm words
+IsShownFor words other = IsAmong other (faults words)

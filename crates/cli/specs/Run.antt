@@ -115,7 +115,8 @@ module _ {P : Type 0} (ran : Ran P) (sayings : Sayings P) (words : List (List �
     pub runs : ran old new came came_new written written_new told command
     pub ends : ended ≡ exit_of told
 
-  -- no command was run, because the words ask for none or memory ran out; a text was shown, and nothing was read
+  -- No command was run, because the words ask for none or memory ran out. The text of that was to be shown, and nothing
+  -- was read.
   pub record ShowsText (errors errors_new : Option (List ℕ) × Writes) (ended : Exit) : Type 0 where
     pub kind : ErrorKind
     pub why : IsShownFor words kind

@@ -83,7 +83,7 @@ impl<'a> SystemStores<'a> {
         ensures older { ⟦<SystemOlderFiles<'a> as StoreFiles<ClosedFile, ClosedFile>>⟧.history result.older ≡ [] }
         ensures servers { ⟦<SystemServers<'a> as Servers<Hearing<UnixStream>, Telling<UnixStream>>>⟧.history
             result.servers ≡ [] }
-        ensures entrances { ⟦<SystemEntrances<'a> as Callers<SystemPeer, SystemOperator>>⟧.history
+        ensures entrances { ⟦<SystemEntrances<'a> as Callers<SystemPeer<'a>, SystemOperator<'a>>>⟧.history
             result.outside.entrances ≡ [] }
         ensures read { ⟦<SystemFiles<'a> as Sources>⟧.history result.outside.files ≡ [] }
         ensures drawn { ⟦<SystemRandomBytes<'a> as RandomBytes>⟧.drawn result.outside.random ≡ no_draws }

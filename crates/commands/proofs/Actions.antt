@@ -1,8 +1,9 @@
 -- What an action does, and why it failed.
 use Rattle.std.specs.Borrow.{Bor}
-use Rattle.std.proofs.Common.{◌≡◌, ℕ, List, Bool, Option, Result, Ok, Err, IfErr, ap, refl, subst, sym, ◌∙◌}
+use Rattle.std.proofs.Common.{◌≡◌, ℕ, List, Bool, Option, Result, Ok, Err, IfErr, OnOk, ap, refl, subst, sym, ◌∙◌}
 use Rattle.histories.specs.Calls.{Writes}
 use Rattle.socket.specs.declared.deed.ListenOn.{ListenOn}
+use Rattle.control.specs.declared.reserve.RoomDeed.{RoomDeed}
 use Rattle.world.specs.Store.{Shown}
 use Rattle.orders.specs.declared.command.RegistryCommand.{RegistryCommand}
 use Rattle.commands.specs.Action.{Acts, ActsAlone, Moment, NeverIo, ServesFor, Views, WritesErrors, acceptance}
@@ -22,14 +23,15 @@ any_action views shown made counted old new result _ acts = acts
 
 -- nobody is served
 pub serves_none : {S N P O : Type 0} (views : Views N P O) (shown : S → Shown) (made : Made S) (counted : Counted S)
-    (old new : Moment S N) (writes writes_new : Writes) (errors errors_new : Option (List ℕ) × Writes)
-    (result : Result Bool CommandRefusal) (act : Action)
+    (old new : Moment S N) (times : List (Option (List ℕ))) (writes writes_new : Writes)
+    (errors errors_new : Option (List ℕ) × Writes) (deeds : List RoomDeed) (result : Result Bool CommandRefusal)
+    (act : Action)
     → ((entrance : ListenOn) (connections : ℕ) (control : Option (Bor (List ℕ)))
     → ¬ (act ≡ action.Serve entrance connections control))
-    → ServesFor views shown made counted old new writes writes_new errors errors_new result act
-serves_none views shown made counted old new writes writes_new errors errors_new result
+    → ServesFor views shown made counted old new times writes writes_new errors errors_new deeds deeds result act
+serves_none views shown made counted old new times writes writes_new errors errors_new deeds result
     (action.Serve entrance connections control) other = absurd (other entrance connections control refl)
-serves_none views shown made counted old new writes writes_new errors errors_new result _ other = tt
+serves_none views shown made counted old new times writes writes_new errors errors_new deeds result _ other = refl
 
 -- it writes nothing to the writer of errors
 pub unwritten : (act : Action) (errors : Option (List ℕ))
@@ -48,6 +50,12 @@ because (Err refusal) why has = has
 pub not_accepted : (ended : Result (Unit {0}) CommandRefusal) (result : Result Bool CommandRefusal)
     (why : CommandRefusal → Type 0) → result ≡ acceptance ended → IfErr ended why → IfErr result why
 not_accepted ended result why is has = subst (λ r. IfErr r why) (sym is) (because ended why has)
+
+-- what holds of a command that is done holds of one that is accepted
+pub accepted : (ended : Result (Unit {0}) CommandRefusal) (result : Result Bool CommandRefusal) (holds : Type 0)
+    → result ≡ acceptance ended → OnOk ended holds → OnOk result holds
+accepted (Ok u) result holds is has = subst (λ r. OnOk r holds) (sym is) has
+accepted (Err refusal) result holds is has = subst (λ r. OnOk r holds) (sym is) tt
 
 -- a registry command that failed did not do so with `Io`
 pub registry_cause : (old new : Shown) (order : RegistryCommand) (ended : Result (Unit {0}) CommandRefusal)

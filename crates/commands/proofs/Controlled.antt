@@ -1,5 +1,5 @@
 -- A command with `--control`, and the `serve` that gets its line.
-use Rattle.std.proofs.Common.{◌≡◌, ℕ, List, [], Bool, true, Result, Ok, Err, refl, ◌∙◌, sym, ap}
+use Rattle.std.proofs.Common.{◌≡◌, ℕ, List, [], Bool, true, Option, Result, Ok, Err, refl, ◌∙◌, sym, ap}
 use Rattle.std.proofs.Common.{subst, inl, inr, true≢false, false}
 use Rattle.world.specs.Store.{Shown}
 use Rattle.world.specs.World.{World, IsWorld}
@@ -91,7 +91,7 @@ outcome_in_told (spoken.Outcome outcome) = outcome
 outcome_in_told (spoken.Health line) = outcome.Bad
 outcome_in_told (spoken.List lines) = outcome.Bad
 
-module _ (idle : Type 0) (meanwhile : Making → Type 0) (old new : Shown) (sent : List ℕ) (order asked : RegistryCommand)
+module _ (idle : Option Heard → Type 0) (meanwhile : Making → Type 0) (old new : Shown) (sent : List ℕ) (order asked : RegistryCommand)
     (ended : Ends) (w : World) where
   carried : new.is_honest → old.stands w → IsWorld w → ComeToTheSame asked order
       → IsLineOf sent (orders.Registry (commanded asked))
@@ -138,7 +138,7 @@ module _ (idle : Type 0) (meanwhile : Making → Type 0) (old new : Shown) (sent
   heard_so honest stands is same asks NoMemory from outcome tells ends through = absurd from
 
 pub ends_as_on_the_store : (made : Making → Type 0)
-    (pinged : Result Health StoreFault → Type 0) (idle : Type 0) (meanwhile : Making → Type 0) (old new : Shown)
+    (pinged : Result Health StoreFault → Type 0) (idle : Option Heard → Type 0) (meanwhile : Making → Type 0) (old new : Shown)
     → ((w : World) → old.stands w → IsWorld w) → EndsAsOnTheStore made pinged idle meanwhile old new
 ends_as_on_the_store made pinged idle meanwhile old new sound order ended w two honest stands =
     heard_so idle meanwhile old new two.passed.sent order two.asked ended w honest stands (sound w stands) two.same

@@ -1,5 +1,5 @@
 -- `key-revoke --fingerprint` with `--control`, and the `serve` that gets its line.
-use Rattle.std.proofs.Common.{◌≡◌, ℕ, List, [], Result, Ok, Err, refl, ◌∙◌, ap, subst, inl, inr}
+use Rattle.std.proofs.Common.{◌≡◌, ℕ, List, [], Option, Result, Ok, Err, refl, ◌∙◌, ap, subst, inl, inr}
 use Rattle.std.proofs.Common.{Bool, true, false, true≢false}
 use Rattle.keyring.specs.Revoke.{after_revoke, revoked}
 use Rattle.world.specs.Store.{Shown}
@@ -45,7 +45,7 @@ ends_so : (f : List ℕ) (told : Result RegistryReply StoreFault)
 ends_so f (Ok r) = refl
 ends_so f (Err fault) = refl
 
-module _ (idle : Type 0) (meanwhile : Making → Type 0) (old new : Shown) (f : List ℕ) (ended : Ends)
+module _ (idle : Option Heard → Type 0) (meanwhile : Making → Type 0) (old new : Shown) (f : List ℕ) (ended : Ends)
     (w : World) where
   named : new.is_honest → old.stands w → (naming : Naming) → Finds old new f naming
       → GoesThroughSteps old new (named_steps f naming) → ended ≡ quiet (ending (named_result naming))
@@ -97,7 +97,7 @@ module _ (idle : Type 0) (meanwhile : Making → Type 0) (old new : Shown) (f : 
   heard_so sent honest stands asks NoMemory from outcome tells ends through lists = absurd from
 
 pub revokes_as_on_the_store : (made : Making → Type 0)
-    (pinged : Result Health StoreFault → Type 0) (idle : Type 0) (meanwhile : Making → Type 0) (old new : Shown)
+    (pinged : Result Health StoreFault → Type 0) (idle : Option Heard → Type 0) (meanwhile : Making → Type 0) (old new : Shown)
     → RevokesAsOnTheStore made pinged idle meanwhile old new
 revokes_as_on_the_store made pinged idle meanwhile old new f ended w two honest stands =
     heard_so idle meanwhile old new f ended w two.passed.sent honest stands two.exchanges.0 two.server.heard

@@ -9,6 +9,7 @@ use Rattle.world.specs.declared.registry.RegistryReply.TheVariants as registered
 use Rattle.world.specs.declared.registry.StoreFault.{StoreFault}
 use Rattle.world.specs.declared.registry.StoreFault.TheVariants as fault
 use Rattle.orders.specs.declared.command.RegistryCommand.{RegistryCommand}
+use Rattle.orders.specs.declared.command.RegistryCommand.TheVariants.{KeyAdd}
 use Rattle.network.specs.History.{Done}
 use Rattle.commands.specs.Connection.{Passed}
 use Rattle.commands.specs.Ending.{Registers, ending}
@@ -77,12 +78,12 @@ none_cause other drawn drawn_new writes refusal (inl (bytes, gives, inr none)) i
 none_cause other drawn drawn_new writes refusal (inr (none, ends)) is =
     inl (omega (arith, none.1))
 
--- an order that ended with `Io` is the cause
-pub ends_io : {R : Type 0} (registers : R → R → RegistryCommand → Result (Unit {0}) CommandRefusal → Type 0) (old new : R)
-    (order : RegistryCommand) (refusal : CommandRefusal) → registers old new order (Err refusal) → refusal ≡ Io
-    → EndsWithIo registers
-ends_io registers old new order refusal ended is =
-    (old, new, order, subst (λ e. registers old new order (Err e)) is ended)
+-- the order that ended with `Io` is the cause
+pub ends_io : {R : Type 0} (registers : R → R → RegistryCommand → Result (Unit {0}) CommandRefusal → Type 0)
+    (shelf key : Bor (List ℕ)) (right : Right) (old new : R) (refusal : CommandRefusal)
+    → registers old new (KeyAdd shelf key right) (Err refusal) → refusal ≡ Io → EndsWithIo registers shelf right old new
+ends_io registers shelf key right old new refusal ended is =
+    (key, subst (λ e. registers old new (KeyAdd shelf key right) (Err e)) is ended)
 
 -- so it is of the first key that is drawn
 pub orders_new : {L : Type 0} (all : L → Passed → Type 0) (path : List ℕ) (before after : List (Done L))

@@ -4,8 +4,9 @@ use Rattle.std.specs.Prelude.{ℕ, List, [], ◌≡◌, true, Bool, Option, opti
 use Rattle.histories.specs.Account.{Account}
 use Rattle.histories.specs.Calls.{Reads, Writes}
 use Rattle.control.specs.Notices.{WritesNotices}
+use Rattle.control.specs.declared.reserve.RoomDeed.{RoomDeed}
 use Rattle.engine.specs.Served.{ServesAllHeard}
-use Rattle.socket.specs.History.{Door}
+use Rattle.socket.specs.History.{Door, Known}
 use Rattle.socket.specs.declared.callers.Caller.{Caller}
 use Rattle.socket.specs.declared.deed.ListenOn.{ListenOn}
 use Rattle.world.specs.Store.{Shown}
@@ -29,13 +30,14 @@ use Rattle.commands.specs.declared.action.Outside.{Outside}
 
 -- What is seen of what an action reaches outside of its store and its streams, which is entrances of callers, files that
 -- are read, and what gives random bytes: what passed over the connections of operators and of peers, what is known of a
--- new one, who waits and what was done there; the files that were read; and the bytes that were drawn.
+-- caller who was just taken and of a peer whose connection was ended, who waits and what was done there; the files that
+-- were read; and the bytes that were drawn.
 pub record Views (N P O : Type 0) : Type 1 where
   pub heeded : O → Account × Reads
   pub told : O → Option (List ℕ) × Writes
   pub heard : P → Account × Reads
   pub written : P → Option (List ℕ) × Writes
-  pub is_new : Caller P O → Type 0
+  pub known : Known P O
   pub door : N → Door (Caller P O)
   pub read : N → List FileDone
   pub drawn : N → Drawn
@@ -141,16 +143,16 @@ module _ {S N P O : Type 0} (views : Views N P O) (shown : S → Shown) (old new
 
 module _ {S N P O : Type 0} (views : Views N P O) (shown : S → Shown) (made : Made S) (counted : Counted S)
     (old new : Moment S N) where
-  -- callers who came in outside were served from the store, by what a calendar showed, these calls of the output and
-  -- this writer of errors, nothing was read from the input or from files, and nothing was drawn
+  -- callers who came in outside were served from the store, by what a calendar showed, these calls of the output, this
+  -- writer of errors and this reserve, nothing was read from the input or from files, and nothing was drawn
   pub record ServesConnections
-      (entrance : ListenOn) (connections : ℕ) (control : Option (List ℕ)) (writes writes_new : Writes)
-      (errors errors_new : Option (List ℕ) × Writes) (result : Result Bool CommandRefusal) : Type 0 where
-    pub times : List (Option (List ℕ))
+      (entrance : ListenOn) (connections : ℕ) (control : Option (List ℕ)) (times : List (Option (List ℕ)))
+      (writes writes_new : Writes) (errors errors_new : Option (List ℕ) × Writes) (deeds deeds_new : List RoomDeed)
+      (result : Result Bool CommandRefusal) : Type 0 where
     pub ended : Result (Unit {0}) CommandRefusal
-    pub serves : ListensAs views.heeded views.told views.heard views.written views.is_new shown made counted
+    pub serves : ListensAs views.heeded views.told views.heard views.written views.known shown made counted
         old.store new.store entrance connections old.written new.written writes writes_new
-        errors errors_new [] times (views.door old.outside) (views.door new.outside) ended control
+        errors errors_new [] times deeds deeds_new (views.door old.outside) (views.door new.outside) ended control
     pub told : result ≡ acceptance ended
     pub came : new.came ≡ old.came
     pub read : views.read new.outside ≡ views.read old.outside
@@ -160,16 +162,20 @@ module _ {S N P O : Type 0} (views : Views N P O) (shown : S → Shown) (made : 
   -- and pings between them; or an action is done that is no `serve`.
   abbrev pub Acts : Result Bool CommandRefusal → Action → Type 0
   Acts result (action.Serve entrance connections control) =
-      (writes writes_new : Writes) × (errors errors_new : Option (List ℕ) × Writes)
-      × ServesConnections entrance connections (option_copied control) writes writes_new errors errors_new result
+      (times : List (Option (List ℕ))) × (writes writes_new : Writes) × (errors errors_new : Option (List ℕ) × Writes)
+      × (deeds deeds_new : List RoomDeed)
+      × ServesConnections entrance connections (option_copied control) times writes writes_new errors errors_new deeds
+      deeds_new result
   Acts result other = ActsAlone views shown old new result other
 
-  -- so it is of a `serve` whose output was called so, and of its writer of errors; of another action this says nothing
-  abbrev pub ServesFor : Writes → Writes → Option (List ℕ) × Writes → Option (List ℕ) × Writes
-      → Result Bool CommandRefusal → Action → Type 0
-  ServesFor writes writes_new errors errors_new result (action.Serve entrance connections control) =
-      ServesConnections entrance connections (option_copied control) writes writes_new errors errors_new result
-  ServesFor writes writes_new errors errors_new result other = Unit {0}
+  -- so it is of a `serve` whose calendar showed these times, whose output was called so, of its writer of errors, and of
+  -- its reserve; another action does nothing to the reserve
+  abbrev pub ServesFor : List (Option (List ℕ)) → Writes → Writes → Option (List ℕ) × Writes
+      → Option (List ℕ) × Writes → List RoomDeed → List RoomDeed → Result Bool CommandRefusal → Action → Type 0
+  ServesFor times writes writes_new errors errors_new deeds deeds_new result (action.Serve entrance connections control) =
+      ServesConnections entrance connections (option_copied control) times writes writes_new errors errors_new deeds
+      deeds_new result
+  ServesFor times writes writes_new errors errors_new deeds deeds_new result other = deeds_new ≡ deeds
 
 -- the action is no `serve`
 abbrev pub IsNoServe : Action → Type 0

@@ -6,7 +6,7 @@ use Rattle.world.specs.declared.registry.StoreFault.{StoreFault}
 use Rattle.machine.specs.Machine.{after}
 use Rattle.keyring.specs.Revoke.{after_revoke_with, revoked_with}
 use Rattle.control.specs.Copying.{Making}
-use Rattle.control.specs.Hearing.{Handles}
+use Rattle.control.specs.Hearing.{Handles, Heard}
 use Rattle.control.specs.Noted.{Noted}
 use Rattle.control.specs.RegistryCommand.{event_of, outcome_in}
 use Rattle.control.specs.declared.health.Health.{Health}
@@ -23,7 +23,7 @@ use Rattle.commands.specs.SentOrder.{Ends, ending_of, quiet}
 
 -- The command sent the line of an order with the same effect, the server did what that orders, and its outcome came.
 pub record AreConnected (made : Making → Type 0)
-    (pinged : Result Health StoreFault → Type 0) (idle : Type 0) (meanwhile : Making → Type 0)
+    (pinged : Result Health StoreFault → Type 0) (idle : Option Heard → Type 0) (meanwhile : Making → Type 0)
     (old new : Shown) (order : RegistryCommand) (ended : Ends) : Type 0 where
   pub asked : RegistryCommand
   pub same : ComeToTheSame asked order
@@ -44,7 +44,7 @@ EndsAt new w order ended =
 -- On an honest disk, the command ends so in each world that the store stood for.
 abbrev pub EndsAsOnTheStore :
     (Making → Type 0) → (Result Health StoreFault → Type 0)
-    → (idle : Type 0) (meanwhile : Making → Type 0) → Shown → Shown → Type 0
+    → (idle : Option Heard → Type 0) (meanwhile : Making → Type 0) → Shown → Shown → Type 0
 EndsAsOnTheStore made pinged idle meanwhile old new =
     (order : RegistryCommand) (ended : Ends) (w : World)
     → AreConnected made pinged idle meanwhile old new order ended → new.is_honest → old.stands w
@@ -55,7 +55,7 @@ EndsAsOnTheStore made pinged idle meanwhile old new =
 -- The command sent its line, the server did what that orders, and its outcome came.
 pub record AreConnectedToRevoke
     (made : Making → Type 0) (pinged : Result Health StoreFault → Type 0)
-    (idle : Type 0) (meanwhile : Making → Type 0) (old new : Shown) (f : List ℕ) (ended : Ends) : Type 0 where
+    (idle : Option Heard → Type 0) (meanwhile : Making → Type 0) (old new : Shown) (f : List ℕ) (ended : Ends) : Type 0 where
   pub passed : Passed
   pub told : Outcome
   pub exchanges : Exchanges (orders.RevokeByFingerprint f) passed (Ok (reply.Outcome told))
@@ -73,7 +73,7 @@ RevokesAt new w f ended =
 -- On an honest disk, the command ends so in each world that the store stood for.
 abbrev pub RevokesAsOnTheStore :
     (Making → Type 0) → (Result Health StoreFault → Type 0)
-    → (idle : Type 0) (meanwhile : Making → Type 0) → Shown → Shown → Type 0
+    → (idle : Option Heard → Type 0) (meanwhile : Making → Type 0) → Shown → Shown → Type 0
 RevokesAsOnTheStore made pinged idle meanwhile old new =
     (f : List ℕ) (ended : Ends) (w : World)
     → AreConnectedToRevoke made pinged idle meanwhile old new f ended → new.is_honest → old.stands w

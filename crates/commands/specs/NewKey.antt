@@ -106,9 +106,10 @@ module _ {L : Type 0} (all : L → Passed → Type 0) (path : List ℕ) where
 
 -- ---- why a command ends with `Io`
 
--- a registry command ended with it
-abbrev pub EndsWithIo : {R : Type 0} → (R → R → RegistryCommand → Result (Unit {0}) CommandRefusal → Type 0) → Type 0
-EndsWithIo {R} registers = (old new : R) × (order : RegistryCommand) × registers old new order (Err Io)
+-- From old to new nothing was done but to have a key added to the shelf, and that ended with it.
+abbrev pub EndsWithIo : {R : Type 0} → (R → R → RegistryCommand → Result (Unit {0}) CommandRefusal → Type 0)
+    → Bor (List ℕ) → Right → R → R → Type 0
+EndsWithIo registers shelf right old new = (key : Bor (List ℕ)) × registers old new (KeyAdd shelf key right) (Err Io)
 
 -- the output failed, or this is so
 abbrev pub FailsOr : Type 0 → Writes → Writes → Type 0
@@ -128,9 +129,11 @@ HasNoKeyOr other drawn drawn_new writes writes_new =
 abbrev pub HasNoKey : Drawn → Drawn → Writes → Writes → Type 0
 HasNoKey drawn drawn_new writes writes_new = HasNoKeyOr ⊥ drawn drawn_new writes writes_new
 
--- an order may
-abbrev pub HasNoKeyOrOrder : {L : Type 0} → (L → Passed → Type 0) → List ℕ → Drawn → Drawn → Writes → Writes → Type 0
-HasNoKeyOrOrder all path = HasNoKeyOr (EndsWithIo (OrdersAt all path))
+-- the order to add a key may
+abbrev pub HasNoKeyOrOrder : {L : Type 0} → (L → Passed → Type 0) → List ℕ → Bor (List ℕ) → Right → List (Done L)
+    → List (Done L) → Drawn → Drawn → Writes → Writes → Type 0
+HasNoKeyOrOrder all path shelf right before after =
+    HasNoKeyOr (EndsWithIo (OrdersAt all path) shelf right before after)
 
 -- a command that ended with `Io` did so because of this
 abbrev pub HasCause : Result (Unit {0}) CommandRefusal → Type 0 → Type 0

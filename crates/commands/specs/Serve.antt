@@ -4,10 +4,10 @@ use Rattle.std.specs.Prelude.{IfOk, Result, Ok, Err}
 use Rattle.std.specs.Io.KnownBytes.{Appends}
 use Rattle.histories.specs.Account.{Account}
 use Rattle.histories.specs.Calls.{Reads, Writes}
-use Rattle.world.specs.Store.{Shown}
+use Rattle.world.specs.Store.{HasCause, Shown}
 use Rattle.world.specs.declared.registry.StoreFault.{StoreFault}
 use Rattle.socket.specs.Connections.{GoesThroughMost}
-use Rattle.socket.specs.History.{Does, Door, IsBoundFor}
+use Rattle.socket.specs.History.{Does, Door, IsBoundFor, Known}
 use Rattle.socket.specs.Serving.{AnswersEach}
 use Rattle.socket.specs.declared.callers.Caller.{Caller}
 use Rattle.socket.specs.declared.deed.Deed.TheVariants as deed
@@ -17,7 +17,10 @@ use Rattle.control.specs.WallClock.{Shows}
 use Rattle.control.specs.Copying.{Making, GoesOnRead, IsOnlyRead}
 use Rattle.control.specs.Notices.{Ended, Reserved, WritesLines, opened, room_told}
 use Rattle.control.specs.Traces.{HasTraces, IsLineFor}
+use Rattle.control.specs.Uses.{HasUses}
 use Rattle.control.specs.Visits.{Call, EndsEach}
+use Rattle.control.specs.declared.reserve.RoomDeed.{RoomDeed}
+use Rattle.control.specs.declared.reserve.RoomDeed.TheVariants as room
 use Rattle.commands.specs.Printed.{HasFailed, PrintsFront}
 use Rattle.commands.specs.declared.refusal.CommandRefusal.{CommandRefusal}
 use Rattle.commands.specs.declared.refusal.CommandRefusal.TheVariants.{Io}
@@ -98,7 +101,7 @@ pub record ServesNobody {C S : Type 0} (old new : S) (entrance : ListenOn) (prin
       ⊎ LetsNobodyIn door left entrance printed printed_new
 
 module _ {P O : Type 0} (heard : P → Account × Reads) (written : P → Option (List ℕ) × Writes)
-    (is_new : Caller P O → Type 0) {S : Type 0} (shown : S → Shown) (old new : S) (entrance : ListenOn)
+    (known : Known P O) {S : Type 0} (shown : S → Shown) (old new : S) (entrance : ListenOn)
     (connections : ℕ) (printed printed_new : Option (List ℕ)) (writes writes_new : Writes)
     (door left : Door (Caller P O)) where
   -- Peers were let in, and as many connections of peers as are to be served were. The store went through at most as
@@ -106,7 +109,7 @@ module _ {P O : Type 0} (heard : P → Account × Reads) (written : P → Option
   pub record AnswersPeers : Type 0 where
     pub begun : Door (Caller P O)
     pub opens : LetsIn door begun entrance printed printed_new
-    pub each : AnswersEach heard written is_new begun left (shown old) (shown new) connections
+    pub each : AnswersEach heard written known begun left (shown old) (shown new) connections
     pub most : GoesThroughMost (shown old) (shown new) connections
 
   -- so it was, or nothing was served
@@ -114,75 +117,85 @@ module _ {P O : Type 0} (heard : P → Account × Reads) (written : P → Option
   AnswersIfOpen (Ok u) = AnswersPeers
   AnswersIfOpen (Err e) = ServesNobody old new entrance printed printed_new writes writes_new door left e
 
--- Callers were served as `EndsEach` says. Before that, the versions of the store were counted, which only reads it. The
--- lines of all this were written, and nothing else, unless a call to write or to flush failed. The writer of errors is
--- what it took, and the calls to it.
+-- Callers were served as `EndsEach` says, and their orders used the reserve as they may. Before that, the versions of
+-- the store were counted, which only reads it, and failed only for a cause. The lines of all this were written, and
+-- nothing else, unless a call to write or to flush failed. The writer of errors is what it took, and the calls to it;
+-- `has_room` says whether all of the reserve was there before.
 pub record TellsEach {P O : Type 0} (heeded : O → Account × Reads) (told : O → Option (List ℕ) × Writes)
-    (heard : P → Account × Reads) (written : P → Option (List ℕ) × Writes) (is_new : Caller P O → Type 0)
+    (heard : P → Account × Reads) (written : P → Option (List ℕ) × Writes) (known : Known P O)
     {S : Type 0} (shown : S → Shown) (made : Made S) (counted : Counted S) (old new : S) (connections : ℕ)
-    (errors errors_new : Option (List ℕ) × Writes) (since : List ℕ) (door left : Door (Caller P O)) : Type 0 where
+    (errors errors_new : Option (List ℕ) × Writes) (since : List ℕ) (has_room : Bool)
+    (deeds deeds_new : List RoomDeed) (door left : Door (Caller P O)) : Type 0 where
   pub mid : S
   pub counts : IsOnlyRead (shown old) (shown mid)
   pub versions : Result ℕ StoreFault
+  pub cause : HasCause (shown old) (shown mid) versions
   pub number : IfOk versions (λ n. counted old mid n)
-  pub each : EndsEach heeded told heard written shown made counted is_new door left mid new since connections
-  pub has_room : Bool
+  pub each : EndsEach heeded told heard written shown made counted known door left mid new since connections
   pub lines : WritesLines (AreOfServe versions has_room each.reads.each.calls) errors errors_new
+  pub uses : (more : List RoomDeed) × (deeds_new ≡ deeds ++ more) × HasUses each.reads.each.calls more
 
 module _ {P O : Type 0} (heeded : O → Account × Reads) (told : O → Option (List ℕ) × Writes)
-    (heard : P → Account × Reads) (written : P → Option (List ℕ) × Writes) (is_new : Caller P O → Type 0)
+    (heard : P → Account × Reads) (written : P → Option (List ℕ) × Writes) (known : Known P O)
     {S : Type 0} (shown : S → Shown) (made : Made S) (counted : Counted S) (old new : S)
     (entrance : ListenOn) (connections : ℕ) (printed printed_new : Option (List ℕ)) (writes writes_new : Writes)
     (errors errors_new : Option (List ℕ) × Writes) where
-  module _ (since : List ℕ) (door left : Door (Caller P O)) where
+  module _ (since : List ℕ) (has_room : Bool) (deeds deeds_new : List RoomDeed) (door left : Door (Caller P O)) where
     -- Peers were let in, and callers were served: peers, and between them operators, until one of these ended it, or
     -- the connections were used up. The lines of that were written. The store went through at most as many requests as
     -- there are connections, with orders between them, and copies of the machine's world at the moment of each order,
-    -- and versions counted in that of each ping, which was told that the server began at this time.
+    -- and versions counted in that of each ping, which was told that the server began at this time. Orders that the
+    -- disk refused used the reserve.
     pub record ServesCallers : Type 0 where
       pub begun : Door (Caller P O)
       pub opens : LetsIn door begun entrance printed printed_new
-      pub each : TellsEach heeded told heard written is_new shown made counted old new connections errors errors_new
-          since begun left
+      pub each : TellsEach heeded told heard written known shown made counted old new connections errors errors_new
+          since has_room deeds deeds_new begun left
       pub goes : GoesOnRead shown made counted old new since connections
 
-    -- so it was, or nothing was served, and no line was written
+    -- so it was, or nothing was served, no line was written, and nothing was done to the reserve
     abbrev pub ServesIfOpen : Result (Unit {0}) CommandRefusal → Type 0
     ServesIfOpen (Ok u) = ServesCallers
     ServesIfOpen (Err e) =
         ServesNobody old new entrance printed printed_new writes writes_new door left e × (errors_new ≡ errors)
+        × (deeds_new ≡ deeds)
 
-  module _ (times times_new : List (Option (List ℕ))) (door left : Door (Caller P O)) (result : Result (Unit {0}) CommandRefusal)
+  module _ (times times_new : List (Option (List ℕ))) (deeds deeds_new : List RoomDeed) (door left : Door (Caller P O))
+      (result : Result (Unit {0}) CommandRefusal)
     where
-      -- without operators: peers were served or not, and then all was closed, and no line was written
+      -- without operators: peers were served or not, and then all was closed, no line was written, and no reserve was
+      -- kept
       pub record Listens : Type 0 where
         pub unsaid : errors_new ≡ errors
+        pub unused : deeds_new ≡ deeds
         pub ended : Door (Caller P O)
-        pub serves : AnswersIfOpen heard written is_new shown old new entrance connections printed printed_new
+        pub serves : AnswersIfOpen heard written known shown old new entrance connections printed printed_new
             writes writes_new door ended result
         pub closes : Does ended left [] deed.Closed
 
-      -- The calendar was read once, and showed a time, the socket at this path was made for operators, and callers were served or
-      -- not. Then the name of the socket was taken away, and all was closed.
+      -- The calendar was read once, and showed a time, the socket at this path was made for operators, the reserve was
+      -- made, and callers were served or not. Then the name of the socket was taken away, and all was closed.
       pub record ListensToBoth (path : List ℕ) : Type 0 where
         pub since : List ℕ
         pub shows : Shows times times_new (Some since)
         pub begun : Door (Caller P O)
         pub makes : Does door begun path deed.Made
+        pub has_room : Bool
         pub ended : Door (Caller P O)
-        pub serves : ServesIfOpen since begun ended result
+        pub serves : ServesIfOpen since has_room (deeds ++ room.Made has_room ∷ []) deeds_new begun ended result
         pub removed : Door (Caller P O)
         pub removes : Does ended removed path deed.Removed
         pub closes : Does removed left [] deed.Closed
 
       -- The calendar was read once. It showed no time, and nothing was opened; or it showed one, the socket at this path
-      -- can't be made, and nothing else was opened. Nothing was printed, no line was written, and the store stays as it
-      -- was.
+      -- can't be made, and nothing else was opened. Nothing was printed, no line was written, no reserve was kept, and
+      -- the store stays as it was.
       pub record ListensToNobody (path : List ℕ) : Type 0 where
         pub is_io : result ≡ Err Io
         pub same : new ≡ old
         pub silent : printed_new ≡ printed
         pub unsaid : errors_new ≡ errors
+        pub unused : deeds_new ≡ deeds
         pub opens : (Shows times times_new None × (left ≡ door))
             ⊎ ((since : List ℕ) × Shows times times_new (Some since) × Does door left path deed.Unmade)
 

@@ -1,7 +1,7 @@
 //! What commands do on an open store, whichever it is. `act_on` has no runtime of the system: it reaches what it is
 //! handed, and the histories of that say all that it did there. `act_alone`, which does each action but `serve`, has
 //! none of what `serve` needs besides: no clock, no copies, and no writer of errors.
-ghost use Rattle.std.specs.Prelude.{◌≡◌, []};
+ghost use Rattle.std.specs.Prelude.{◌≡◌, [], OnOk};
 ghost use Rattle.commands.specs.Action as spec;
 ghost use Rattle.socket.specs.Connections.{both};
 
@@ -16,14 +16,13 @@ use crate::registry::{register, revoke_by_fingerprint};
 use crate::report::{Named, print_catalog, print_inventory, print_list, print_requirements};
 use crate::serve::serve;
 use crate::sources::Sources;
-use control::{Copies, Operator, WallClock};
-use histories::{Hear, Tell};
+use control::{Copies, Operator, Reserve, WallClock};
+use histories::{ClockFace, Hear, Tell};
 use keyring::Keyring;
 use orders::{Listing, RegistryCommand};
 use outline::outlines::Outlines;
 use socket::{Entrances, ListenOn, Peer};
 use std::alloc::Global;
-use std::time::Clock;
 use world::entry::Right;
 
 /// What a command does on an open store.
@@ -98,14 +97,16 @@ pub struct Outside<N, F, B> {
 /// It has no handle of the system, so what it reaches is what it is handed. `serve` lets callers in by the entrances of
 /// `outside`, and writes notices to `errors`; no other action opens those, or writes there. A publish and an import
 /// read by the files of `outside`, and no other action does. A key is made of what its `random` gives, and no other
-/// action draws from it. `clock` bounds the time of callers, `calendar` shows when a `serve` began, and `copied` when a
-/// copy was made. `progress` shows how far an import is. Fails as the function of the action does.
+/// action draws from it. By `clock` the same fault is noted once a minute, `calendar` shows when a `serve` began,
+/// `copied` when a copy was made, and `reserve` keeps room for the orders to it. `progress` shows how far an import is.
+/// Fails as the function of the action does.
 pub fn act_on<
-    C: Clock,
+    C: ClockFace,
     D: WallClock + Drop,
     B: RandomBytes,
     S: Outlines + Keyring,
     K: Copies<S>,
+    V: Reserve<S>,
     P: Peer + Drop,
     Q: Operator + Drop,
     N: Entrances<P, Q>,
@@ -121,6 +122,7 @@ pub fn act_on<
     progress: &ImportProgress<'_>,
     shelves: &mut S,
     copies: &K,
+    reserve: &mut V,
     outside: &mut Outside<N, F, B>,
     action: &Action,
     input: &mut I,
@@ -134,7 +136,7 @@ pub fn act_on<
           told = both Q.written Q.writes;
           heard = both P.came P.reads;
           written = both P.written P.writes;
-          is_new = N.is_new;
+          known = N.known;
           door = spec.of_entrances (both N.waiting N.history);
           read = spec.of_files F.history;
           drawn = spec.of_random B.drawn;
@@ -154,14 +156,15 @@ pub fn act_on<
         })
         result action.now }
     // A `serve` that fails after it let peers in does so because a call of the output failed, and each order has a line
-    // of its own in `errors`, unless a call to write or to flush failed there.
+    // of its own in `errors`, unless a call to write or to flush failed there. Only the orders of a `serve` use the
+    // reserve.
     ensures serves { spec.ServesFor
         (record {
           heeded = both Q.came Q.reads;
           told = both Q.written Q.writes;
           heard = both P.came P.reads;
           written = both P.written P.writes;
-          is_new = N.is_new;
+          known = N.known;
           door = spec.of_entrances (both N.waiting N.history);
           read = spec.of_files F.history;
           drawn = spec.of_random B.drawn;
@@ -179,13 +182,16 @@ pub fn act_on<
           came = I.account input.new;
           written = O.contents output.new;
         })
-        (O.writes output.old) (O.writes output.new)
-        (both E.contents E.writes errors.old) (both E.contents E.writes errors.new) result action.now }
+        (D.shown calendar.new) (O.writes output.old) (O.writes output.new)
+        (both E.contents E.writes errors.old) (both E.contents E.writes errors.new)
+        (V.deeds reserve.old) (V.deeds reserve.new) result action.now }
     // Only `serve` writes to `errors`, and only notices.
     ensures notes { spec.WritesErrors action.now (E.contents errors.old) (E.contents errors.new) }
     // If the making of a key fails, nothing is printed, unless a call of the output failed.
     ensures whole { spec.PrintsKeyFor action.now (O.contents output.old) (O.contents output.new)
         (O.writes output.old) (O.writes output.new) result }
+    // What was printed is flushed.
+    ensures flushed { (O.writes output.old).unflushed ≡ [] → OnOk result ((O.writes output.new).unflushed ≡ []) }
     // It fails with `Io` only because a call of its streams failed, no key could be made, or a file could not be read.
     ensures cause { spec.CauseOf S.shown
         (record {
@@ -216,6 +222,7 @@ pub fn act_on<
             copied,
             shelves,
             copies,
+            reserve,
             &mut outside.entrances,
             *entrance,
             *connections,
@@ -253,7 +260,7 @@ fn act_alone<
           told = both Q.written Q.writes;
           heard = both P.came P.reads;
           written = both P.written P.writes;
-          is_new = N.is_new;
+          known = N.known;
           door = spec.of_entrances (both N.waiting N.history);
           read = spec.of_files F.history;
           drawn = spec.of_random B.drawn;
@@ -274,6 +281,7 @@ fn act_alone<
         result action.now }
     ensures whole { spec.PrintsKeyFor action.now (O.contents output.old) (O.contents output.new)
         (O.writes output.old) (O.writes output.new) result }
+    ensures flushed { (O.writes output.old).unflushed ≡ [] → OnOk result ((O.writes output.new).unflushed ≡ []) }
     ensures cause { spec.CauseOf S.shown
         (record {
           store = shelves.old;

@@ -1,11 +1,10 @@
 //! Waiting for the copy that a running `serve` was ordered to make.
-ghost use Rattle.std.specs.Prelude.{◌≡◌, ◌≤◌, IfErr, OnOk, vec_capacity, vec_len};
-ghost use Rattle.engine.specs.Causes.{IsUnreadable, most_reads};
+ghost use Rattle.std.specs.Prelude.{◌≡◌, ◌≤◌, true, IfErr, OnOk, vec_capacity, vec_len};
 ghost use Rattle.orders.specs.Order.{ordered};
 ghost use Rattle.control.specs.Asking.{OrderGets, extent_of};
-ghost use Rattle.control.specs.Line.{LacksRoom, ReadsReply};
+ghost use Rattle.control.specs.Line.{HearsReply, LacksRoom, ReadsReply};
 ghost use Rattle.control.specs.declared.line.Extent.TheVariants.{Line};
-ghost use Rattle.commands.specs.Connection.{IsAll, PingsBetween};
+ghost use Rattle.commands.specs.Connection.{IsAll, PingsBetween, pings_after};
 
 use crate::copy_progress::copy_progress;
 use crate::progress::{Progress, StderrLine};
@@ -28,14 +27,15 @@ pub(crate) fn order_copy<R: Hear, W: Tell, V: Servers<R, W>>(
     writer: &mut W,
     order: &Order,
 ) -> Result<OrderReply, SendError>
-    ensures gets { extent_of (ordered order.now) ≡ Line → OrderGets
+    ensures gets { extent_of (ordered order.now) ≡ Line → OrderGets true
         (R.account reader.old) (R.account reader.new) (R.reads reader.old) (R.reads reader.new)
         (W.contents writer.old) (W.contents writer.new) (W.writes writer.old).failed (W.writes writer.new).failed
         (ordered order.now) result }
     ensures between { PingsBetween
         (λ link passed. IsAll (R.account link.reader) (R.reads link.reader)
         (W.contents link.writer) (W.writes link.writer).failed passed)
-        (V.history servers.old) (V.history servers.new) control.now }
+        (V.history servers.old) (V.history servers.new) control.now
+        (R.reads reader.old).failed (R.reads reader.new).failed }
 {
     let mut got = match send_order(alloc, writer, order) {
         Ok(room) => room,
@@ -49,7 +49,7 @@ pub(crate) fn order_copy<R: Hear, W: Tell, V: Servers<R, W>>(
 }
 
 /// Reads the line of an outcome. Each time that a read is late or interrupted, it shows how far the copy is. Fails with
-/// `Io` if a read fails otherwise or `u64::MAX` reads are not enough, and with `Memory` if memory runs out.
+/// `Io` if a read breaks or `u64::MAX` reads are not enough, and with `Memory` if memory runs out.
 fn await_line<R: Hear, W: Tell, V: Servers<R, W>>(
     alloc: Global,
     servers: &mut V,
@@ -60,14 +60,15 @@ fn await_line<R: Hear, W: Tell, V: Servers<R, W>>(
 ) -> Result<(), ReadError>
     ensures reads { OnOk result (ReadsReply Line
         (R.account reader.old) (R.account reader.new) got.old.items got.new.items) }
-    ensures cause { IfErr result (λ why. why ≡ ReadError.Io
-        → IsUnreadable most_reads (R.reads reader.old) (R.reads reader.new)) }
+    // It fails with `Io` just if a read broke, or all that there are began or failed.
+    ensures hears { HearsReply true (R.reads reader.old) (R.reads reader.new) result }
     ensures memory { IfErr result (λ why. why ≡ ReadError.Memory
         → LacksRoom Line (vec_capacity got.old) (vec_len got.old)) }
     ensures between { PingsBetween
         (λ link passed. IsAll (R.account link.reader) (R.reads link.reader)
         (W.contents link.writer) (W.writes link.writer).failed passed)
-        (V.history servers.old) (V.history servers.new) control.now }
+        (V.history servers.old) (V.history servers.new) control.now
+        (R.reads reader.old).failed (R.reads reader.new).failed }
 {
     for _ in 0..u64::MAX {
         match hear_on(reader, got, Extent::Line)? {
@@ -90,7 +91,7 @@ fn show<R: Hear, W: Tell, V: Servers<R, W>>(
     ensures { PingsBetween
         (λ link passed. IsAll (R.account link.reader) (R.reads link.reader)
         (W.contents link.writer) (W.writes link.writer).failed passed)
-        (V.history servers.old) (V.history servers.new) control.now }
+        (V.history servers.old) (V.history servers.new) control.now 0 (pings_after came) }
 {
     let (Some(line), Came::Interrupted | Came::Late) = (line, came) else {
         return;
@@ -111,7 +112,7 @@ fn how_far<R: Hear, W: Tell, V: Servers<R, W>>(
     ensures { PingsBetween
         (λ link passed. IsAll (R.account link.reader) (R.reads link.reader)
         (W.contents link.writer) (W.writes link.writer).failed passed)
-        (V.history servers.old) (V.history servers.new) control.now }
+        (V.history servers.old) (V.history servers.new) control.now 0 1 }
 {
     match servers.connect(control, Wait::Second) {
         Ok(mut link) => {

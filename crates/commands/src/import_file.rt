@@ -1,5 +1,5 @@
 //! `import` of a list in a file.
-ghost use Rattle.std.specs.Prelude.{◌≡◌, Some};
+ghost use Rattle.std.specs.Prelude.{◌≡◌, [], OnOk, Some};
 ghost use Rattle.commands.specs.ImportFile as spec;
 ghost use Rattle.commands.specs.Printed.{FailsByOutput, FailsEarlyOrByOutput};
 
@@ -55,6 +55,8 @@ pub fn import_file<S: Shelves, F: Sources, O: Tell>(
     // opened.
     ensures cause { FailsEarlyOrByOutput shelves.old shelves.new (O.contents output.old) (O.contents output.new)
         (O.writes output.old) (O.writes output.new) result }
+    // What was printed is flushed.
+    ensures flushed { (O.writes output.old).unflushed ≡ [] → OnOk result ((O.writes output.new).unflushed ≡ []) }
 {
     match sources.front(list, MAX_LIST) {
         Ok(front) => import_front(alloc, shelves, key, &front, sources, progress, output),
@@ -76,6 +78,7 @@ fn import_front<S: Shelves, F: Sources, O: Tell>(
     ensures imports { spec.ImportsBytes (S.shown shelves.old) (S.shown shelves.new) key.now front.now
         (F.history sources.old) (F.history sources.new) (O.contents output.old) (O.contents output.new) result }
     ensures cause { FailsByOutput (O.writes output.old) (O.writes output.new) result }
+    ensures flushed { (O.writes output.old).unflushed ≡ [] → OnOk result ((O.writes output.new).unflushed ≡ []) }
 {
     let bytes = front.bytes.as_slice();
     let is_whole = front.end.is_whole();

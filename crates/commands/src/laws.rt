@@ -1,6 +1,6 @@
 //! What holds of every inventory, of every import, and of every order that is sent.
-ghost use Rattle.std.specs.Prelude.{◌≡◌};
 ghost use Rattle.control.specs.Health.{IsPinged};
+ghost use Rattle.control.specs.Hearing.{UsesRoomIf};
 ghost use Rattle.control.specs.declared.tally.Tally.{Tally};
 ghost use Rattle.commands.specs.Controlled.{EndsAsOnTheStore, RevokesAsOnTheStore};
 ghost use Rattle.commands.specs.Rows.{RowsAreWhole};
@@ -27,7 +27,8 @@ pub fn rows_are_whole()
 pub fn orders_end_as_on_the_store<S: Shelves, K: CopyOrders<S>>()
     ensures { (old new : S) (copies copies_new : K) (tally : Tally) → EndsAsOnTheStore (K.made old new)
         (IsPinged tally (S.shown old).failures (S.shown new).failures (K.counted old new))
-        (copies_new ≡ copies) (K.meanwhile copies copies_new old new) (S.shown old) (S.shown new) }
+        (λ heard. K.rests copies copies_new × UsesRoomIf (S.shown old) (S.shown new) (K.deeds copies)
+        (K.deeds copies_new) heard) (K.meanwhile copies copies_new old new) (S.shown old) (S.shown new) }
 {}
 
 /// `key-revoke --fingerprint` with `--control`, whose line a `serve` carried out and whose outcome came, ends as it
@@ -37,5 +38,6 @@ pub fn orders_end_as_on_the_store<S: Shelves, K: CopyOrders<S>>()
 pub fn revocations_end_as_on_the_store<S: Shelves, K: CopyOrders<S>>()
     ensures { (old new : S) (copies copies_new : K) (tally : Tally) → RevokesAsOnTheStore (K.made old new)
         (IsPinged tally (S.shown old).failures (S.shown new).failures (K.counted old new))
-        (copies_new ≡ copies) (K.meanwhile copies copies_new old new) (S.shown old) (S.shown new) }
+        (λ heard. K.rests copies copies_new × UsesRoomIf (S.shown old) (S.shown new) (K.deeds copies)
+        (K.deeds copies_new) heard) (K.meanwhile copies copies_new old new) (S.shown old) (S.shown new) }
 {}

@@ -95,12 +95,13 @@ pub fn order_new<B: RandomBytes, R: Hear, W: Tell, V: Servers<R, W>, O: Tell>(
         (W.contents link.writer) (W.writes link.writer).failed passed)
         path.now (V.history servers.old) (V.history servers.new) (B.drawn random.old) (B.drawn random.new)
         shelf.entry right (O.contents output.old) (O.contents output.new) result }
-    // It ends with `Io` only if there are no random bytes, they make no key, a call of the output failed, or an order
-    // ended so.
+    // It ends with `Io` only if there are no random bytes, they make no key, a call of the output failed, or the order
+    // to add the key ended so and no other followed.
     ensures cause { spec.HasCause result (spec.HasNoKeyOrOrder
         (λ (link : Link R W) passed. IsAll (R.account link.reader) (R.reads link.reader)
         (W.contents link.writer) (W.writes link.writer).failed passed)
-        path.now (B.drawn random.old) (B.drawn random.new) (O.writes output.old) (O.writes output.new)) }
+        path.now shelf.entry right (V.history servers.old) (V.history servers.new)
+        (B.drawn random.old) (B.drawn random.new) (O.writes output.old) (O.writes output.new)) }
     // If it fails, it printed nothing, unless a call of the output failed.
     ensures whole { FailsUnprinted (O.contents output.old) (O.contents output.new)
         (O.writes output.old) (O.writes output.new) result }
@@ -165,7 +166,8 @@ fn order_key<R: Hear, W: Tell, V: Servers<R, W>, O: Tell>(
     ensures cause { spec.HasCause result (spec.FailsOr (spec.EndsWithIo (OrdersAt
         (λ (link : Link R W) passed. IsAll (R.account link.reader) (R.reads link.reader)
         (W.contents link.writer) (W.writes link.writer).failed passed)
-        path.now)) (O.writes output.old) (O.writes output.new)) }
+        path.now) shelf.entry right (V.history servers.old) (V.history servers.new))
+        (O.writes output.old) (O.writes output.new)) }
     ensures whole { FailsUnprinted (O.contents output.old) (O.contents output.new)
         (O.writes output.old) (O.writes output.new) result }
     ensures flushed { OnOk result ((O.writes output.new).unflushed ≡ []) }

@@ -3,12 +3,13 @@
 //! It is drawn on standard error, and only if that is a terminal. A write that fails is not repeated, and changes
 //! nothing else.
 
+use histories::ClockFace;
 use std::alloc::{AllocError, Global};
 use std::cell::Cell;
 use std::fmt::{self, Write as _};
 use std::io::{IsTerminal, Write};
 use std::rt::{HostRuntime, Stderr};
-use std::time::{Clock, Duration, Instant};
+use std::time::{Duration, Instant};
 
 /// The bytes of a MiB.
 const MIB: u64 = 1 << 20;
@@ -149,7 +150,7 @@ impl<'a> ProgressLine<'a, HostRuntime, Stderr> {
     }
 }
 
-impl<'a, C: Clock, W: Write + Copy> ProgressLine<'a, C, W> {
+impl<'a, C: ClockFace, W: Write + Copy> ProgressLine<'a, C, W> {
     /// Returns the line of a command that begins now. It is never drawn if there is no terminal.
     pub fn new(
         alloc: Global,
@@ -158,7 +159,7 @@ impl<'a, C: Clock, W: Write + Copy> ProgressLine<'a, C, W> {
         terminal: Option<W>,
     ) -> ProgressLine<'a, C, W> {
         let begun = match terminal {
-            Some(_) => Instant::now(clock).ok(),
+            Some(_) => clock.now().ok(),
             None => None,
         };
         ProgressLine {
@@ -182,15 +183,15 @@ impl<'a, C: Clock, W: Write + Copy> ProgressLine<'a, C, W> {
         let Some(drawn) = self.drawn.get() else {
             return false;
         };
-        match drawn.elapsed(self.clock) {
-            Ok(passed) => passed >= Duration::from_secs(1),
+        match self.clock.now() {
+            Ok(now) => now.duration_since(drawn) >= Duration::from_secs(1),
             Err(_) => false,
         }
     }
 
     /// Draws the line in place of the last one.
     pub fn draw(&self, progress: &Progress) {
-        let (Some(begun), Ok(now)) = (self.begun, Instant::now(self.clock)) else {
+        let (Some(begun), Ok(now)) = (self.begun, self.clock.now()) else {
             return;
         };
         self.drawn.set(Some(now));

@@ -3,7 +3,7 @@ ghost use Rattle.std.specs.Prelude.{◌≡◌, ◌⊎◌, [], IfErr, MatchResult
 ghost use Rattle.orders.specs.Order.{ordered};
 ghost use Rattle.control.specs.Asking.{OrderGets};
 ghost use Rattle.network.specs.History.{Fails};
-ghost use Rattle.commands.specs.Connection.{Exchanges, IsAll, IsWaitFor, Meets, PingsIf};
+ghost use Rattle.commands.specs.Connection.{Exchanges, IsAll, IsWaitFor, Meets, PingsIf, reads_on};
 ghost use Rattle.commands.specs.Order as spec;
 ghost use Rattle.commands.specs.Printed.{HasFailed};
 ghost use Rattle.commands.specs.SentOrder.{Ends, IsFlushed};
@@ -158,13 +158,15 @@ fn exchange<R: Hear, W: Tell, V: Servers<R, W>>(
     writer: &mut W,
     order: &Order,
 ) -> Result<OrderReply, SendError>
-    ensures gets { OrderGets (R.account reader.old) (R.account reader.new) (R.reads reader.old) (R.reads reader.new)
+    ensures gets { OrderGets (reads_on (ordered order.now))
+        (R.account reader.old) (R.account reader.new) (R.reads reader.old) (R.reads reader.new)
         (W.contents writer.old) (W.contents writer.new) (W.writes writer.old).failed (W.writes writer.new).failed
         (ordered order.now) result }
     ensures between { PingsIf
         (λ link passed. IsAll (R.account link.reader) (R.reads link.reader)
         (W.contents link.writer) (W.writes link.writer).failed passed)
-        (V.history servers.old) (V.history servers.new) control.now (ordered order.now) }
+        (V.history servers.old) (V.history servers.new) control.now
+        (R.reads reader.old).failed (R.reads reader.new).failed (ordered order.now) }
 {
     match order {
         Order::Copy(_) => order_copy(alloc, servers, control, line, reader, writer, order),

@@ -13,32 +13,33 @@ ghost use Rattle.commands.specs.Serve.{Opens, ServesIfOpen, TellsEach, line_of, 
 
 use crate::printing::{print_both, print_one};
 use crate::refusal::CommandRefusal;
-use control::{Copies, Operator, WallClock, ended, opened, reserved, serve_both, tell};
+use control::{Copies, Operator, Reserve, WallClock, ended, opened, reserved, serve_both, tell};
 use engine::Io;
 use engine::write::write_bytes;
-use histories::Tell;
+use histories::{ClockFace, Tell};
 use itoa::Buffer;
 use keyring::Keyring;
 use modver::TimeText;
 use socket::{Entrances, ListenOn, Peer, serve_on};
 use std::alloc::Global;
-use std::time::Clock;
 
 /// Lets peers in, prints the line of where, and serves the connections that come in: the store goes through at most as
 /// many requests as there are connections. If a socket `control` is named, it is made first, and the orders of
 /// operators who connect to it are carried out between them, copies by `copies`, and do not count; a ping reports the
 /// versions that `copies` counts, and when the server began: the time that `calendar` shows before the socket is made.
-/// `copied` shows when a copy was made. Notices, which have no key, are then written to `errors`; if that fails,
-/// nothing else changes. At the end nobody is let in any more, and the name of the socket is gone.
+/// `copied` shows when a copy was made, and `reserve` keeps room for orders from then on. Notices, which have no key,
+/// are then written to `errors`; if that fails, nothing else changes. At the end nobody is let in any more, and the
+/// name of the socket is gone.
 ///
 /// `Io` if the entrance or the socket can't be opened, the clock can't be read for the start time, the output fails, or
 /// memory runs out before it serves: then nothing of the line is printed, a beginning or all of it, nobody is taken,
 /// and the store stays as it was. A connection that fails only counts.
 pub fn serve<
-    C: Clock,
+    C: ClockFace,
     D: WallClock + Drop,
     S: Keyring,
     K: Copies<S>,
+    V: Reserve<S>,
     P: Peer + Drop,
     Q: Operator + Drop,
     N: Entrances<P, Q>,
@@ -51,6 +52,7 @@ pub fn serve<
     copied: D,
     shelves: &mut S,
     copies: &K,
+    reserve: &mut V,
     entrances: &mut N,
     entrance: ListenOn,
     connections: u32,
@@ -59,10 +61,10 @@ pub fn serve<
     errors: &mut E,
 ) -> Result<(), CommandRefusal>
     ensures serves { ListensAs (both Q.came Q.reads) (both Q.written Q.writes)
-        (both P.came P.reads) (both P.written P.writes) N.is_new S.shown K.made K.counted shelves.old shelves.new
+        (both P.came P.reads) (both P.written P.writes) N.known S.shown K.made K.counted shelves.old shelves.new
         entrance connections (O.contents output.old) (O.contents output.new) (O.writes output.old) (O.writes output.new)
         (both E.contents E.writes errors.old) (both E.contents E.writes errors.new)
-        (D.shown calendar.old) (D.shown calendar.new)
+        (D.shown calendar.old) (D.shown calendar.new) (V.deeds reserve.old) (V.deeds reserve.new)
         (both N.waiting N.history entrances.old) (both N.waiting N.history entrances.new)
         result (option_copied control.entry) }
     // What was printed is flushed.
@@ -72,15 +74,7 @@ pub fn serve<
 {
     match control {
         None => {
-            let told = answer_peers(
-                alloc,
-                clock,
-                shelves,
-                entrances,
-                entrance,
-                connections,
-                output,
-            );
+            let told = answer_peers(alloc, shelves, entrances, entrance, connections, output);
             entrances.close();
             told
         }
@@ -91,6 +85,7 @@ pub fn serve<
             copied,
             shelves,
             copies,
+            reserve,
             entrances,
             entrance,
             connections,
@@ -102,16 +97,15 @@ pub fn serve<
 }
 
 /// Lets peers in, and answers them.
-fn answer_peers<C: Clock, S: Keyring, P: Peer + Drop, Q, N: Entrances<P, Q>, O: Tell>(
+fn answer_peers<S: Keyring, P: Peer + Drop, Q, N: Entrances<P, Q>, O: Tell>(
     alloc: Global,
-    clock: &C,
     shelves: &mut S,
     entrances: &mut N,
     entrance: ListenOn,
     connections: u32,
     output: &mut O,
 ) -> Result<(), CommandRefusal>
-    ensures serves { AnswersIfOpen (both P.came P.reads) (both P.written P.writes) N.is_new S.shown
+    ensures serves { AnswersIfOpen (both P.came P.reads) (both P.written P.writes) N.known S.shown
         shelves.old shelves.new entrance connections (O.contents output.old) (O.contents output.new)
         (O.writes output.old) (O.writes output.new)
         (both N.waiting N.history entrances.old) (both N.waiting N.history entrances.new) result }
@@ -120,16 +114,17 @@ fn answer_peers<C: Clock, S: Keyring, P: Peer + Drop, Q, N: Entrances<P, Q>, O: 
     let Ok(()) = listen(entrances, entrance, output) else {
         return Err(CommandRefusal::Io);
     };
-    serve_on(alloc, clock, entrances, shelves, connections);
+    serve_on(alloc, entrances, shelves, connections);
     Ok(())
 }
 
 /// Serves the connections of peers, and the operators of a socket, which is made first and removed at the end.
 fn serve_operators<
-    C: Clock,
+    C: ClockFace,
     D: WallClock + Drop,
     S: Keyring,
     K: Copies<S>,
+    V: Reserve<S>,
     P: Peer + Drop,
     Q: Operator + Drop,
     N: Entrances<P, Q>,
@@ -142,6 +137,7 @@ fn serve_operators<
     copied: D,
     shelves: &mut S,
     copies: &K,
+    reserve: &mut V,
     entrances: &mut N,
     entrance: ListenOn,
     connections: u32,
@@ -150,10 +146,10 @@ fn serve_operators<
     errors: &mut E,
 ) -> Result<(), CommandRefusal>
     ensures serves { ListensAs (both Q.came Q.reads) (both Q.written Q.writes)
-        (both P.came P.reads) (both P.written P.writes) N.is_new S.shown K.made K.counted shelves.old shelves.new
+        (both P.came P.reads) (both P.written P.writes) N.known S.shown K.made K.counted shelves.old shelves.new
         entrance connections (O.contents output.old) (O.contents output.new) (O.writes output.old) (O.writes output.new)
         (both E.contents E.writes errors.old) (both E.contents E.writes errors.new)
-        (D.shown calendar.old) (D.shown calendar.new)
+        (D.shown calendar.old) (D.shown calendar.new) (V.deeds reserve.old) (V.deeds reserve.new)
         (both N.waiting N.history entrances.old) (both N.waiting N.history entrances.new)
         result (Some path.now) }
     ensures flushed { OnOk result ((O.writes output.new).unflushed ≡ []) }
@@ -165,13 +161,14 @@ fn serve_operators<
     let Ok(()) = entrances.make_socket(path) else {
         return Err(CommandRefusal::Io);
     };
-    let has_room = <K as Copies<S>>::make_room(copies);
+    let has_room = reserve.make_room();
     let told = serve_callers(
         alloc,
         clock,
         copied,
         shelves,
         copies,
+        reserve,
         has_room,
         since,
         entrances,
@@ -188,10 +185,11 @@ fn serve_operators<
 
 /// Lets peers in, and serves both.
 fn serve_callers<
-    C: Clock,
+    C: ClockFace,
     D: WallClock + Drop,
     S: Keyring,
     K: Copies<S>,
+    V: Reserve<S>,
     P: Peer + Drop,
     Q: Operator + Drop,
     N: Entrances<P, Q>,
@@ -203,6 +201,7 @@ fn serve_callers<
     copied: D,
     shelves: &mut S,
     copies: &K,
+    reserve: &mut V,
     has_room: bool,
     since: TimeText,
     entrances: &mut N,
@@ -212,10 +211,11 @@ fn serve_callers<
     errors: &mut E,
 ) -> Result<(), CommandRefusal>
     ensures serves { ServesIfOpen (both Q.came Q.reads) (both Q.written Q.writes)
-        (both P.came P.reads) (both P.written P.writes) N.is_new S.shown K.made K.counted shelves.old shelves.new
+        (both P.came P.reads) (both P.written P.writes) N.known S.shown K.made K.counted shelves.old shelves.new
         entrance connections (O.contents output.old) (O.contents output.new)
         (O.writes output.old) (O.writes output.new)
-        (both E.contents E.writes errors.old) (both E.contents E.writes errors.new) since
+        (both E.contents E.writes errors.old) (both E.contents E.writes errors.new) since has_room
+        (V.deeds reserve.old) (V.deeds reserve.new)
         (both N.waiting N.history entrances.old) (both N.waiting N.history entrances.new) result }
     ensures flushed { OnOk result ((O.writes output.new).unflushed ≡ []) }
     ensures notes { WritesNotices (E.contents errors.old) (E.contents errors.new) }
@@ -229,6 +229,7 @@ fn serve_callers<
         copied,
         shelves,
         copies,
+        reserve,
         has_room,
         since,
         entrances,
@@ -241,10 +242,11 @@ fn serve_callers<
 /// Serves the callers who come in. Before that it writes notices of what was opened, and of the reserve if it lacks
 /// room, and after it one of the end.
 fn serve_told<
-    C: Clock,
+    C: ClockFace,
     D: WallClock + Drop,
     S: Keyring,
     K: Copies<S>,
+    V: Reserve<S>,
     P: Peer + Drop,
     Q: Operator + Drop,
     N: Entrances<P, Q>,
@@ -255,6 +257,7 @@ fn serve_told<
     copied: D,
     shelves: &mut S,
     copies: &K,
+    reserve: &mut V,
     has_room: bool,
     since: TimeText,
     entrances: &mut N,
@@ -262,8 +265,9 @@ fn serve_told<
     errors: &mut E,
 )
     ensures each { TellsEach (both Q.came Q.reads) (both Q.written Q.writes)
-        (both P.came P.reads) (both P.written P.writes) N.is_new S.shown K.made K.counted shelves.old shelves.new
-        connections (both E.contents E.writes errors.old) (both E.contents E.writes errors.new) since
+        (both P.came P.reads) (both P.written P.writes) N.known S.shown K.made K.counted shelves.old shelves.new
+        connections (both E.contents E.writes errors.old) (both E.contents E.writes errors.new) since has_room
+        (V.deeds reserve.old) (V.deeds reserve.new)
         (both N.waiting N.history entrances.old) (both N.waiting N.history entrances.new) }
     ensures goes { GoesOnRead S.shown K.made K.counted shelves.old shelves.new since connections }
     ensures notes { WritesNotices (E.contents errors.old) (E.contents errors.new) }
@@ -277,6 +281,7 @@ fn serve_told<
         entrances,
         shelves,
         copies,
+        reserve,
         copied,
         since,
         connections,

@@ -4,7 +4,7 @@ use Rattle.std.proofs.Common.{Bool, ℕ, ◌+◌, ◌≡◌, subst, List, Option
 use Rattle.histories.specs.Account.{Account}
 use Rattle.histories.specs.Calls.{Reads, Writes}
 use Rattle.interleave.specs.declared.between.CopyProgress.{CopyProgress}
-use Rattle.socket.specs.History.{Door, Ends}
+use Rattle.socket.specs.History.{Door, EndsOperator}
 use Rattle.world.specs.Store.{Shown}
 use Rattle.world.specs.declared.registry.StoreFault.{StoreFault}
 use Rattle.engine.specs.declared.fault.Io.{Io}
@@ -13,10 +13,11 @@ use Rattle.control.specs.Metrics.{TellsKept}
 use Rattle.control.specs.Health.{IsPinged}
 use Rattle.control.specs.Pinging.{TellsHowFar, TellsPing}
 use Rattle.control.specs.Serving.{ObeysMeanwhile}
-use Rattle.control.specs.Traces.{WritesTrace}
+use Rattle.control.specs.Reserve.{Lent}
+use Rattle.control.specs.Traces.{Log, WritesTrace}
+use Rattle.control.specs.Uses.{UsesOnce}
 use Rattle.control.specs.Visits.{ObeysOne}
 use Rattle.socket.specs.declared.callers.Caller.{Caller}
-use Rattle.socket.specs.declared.callers.Caller.TheVariants.{Operator}
 use Rattle.control.specs.declared.health.Metrics.{Metrics}
 use Rattle.control.specs.declared.health.Health.{Health}
 use Rattle.control.specs.declared.progress.Progress.{Progress}
@@ -40,22 +41,24 @@ module _ {O : Type 0} (heeded : O → Account × Reads) (told : O → Option (Li
     (counted : S → S → ℕ → Type 0) where
   abbrev Obeyed : Tally → O → O → Bool → S → S → Type 0
   Obeyed tally operator gone stops s t = ObeysOne heeded told (made s t)
-      (IsPinged tally (shown s).failures (shown t).failures (counted s t)) (Unit {0})
+      (IsPinged tally (shown s).failures (shown t).failures (counted s t)) (λ _. Unit {0})
       (λ making. IsOnlyRead (shown s) (shown t) × IsBusy making) operator gone stops (shown s) (shown t)
 
   -- an operator was obeyed while a copy is made, with a tally that is that of the moment, and ended
   pub obeys_meanwhile : {P : Type 0} (far : Option CopyProgress) (tally : Tally) (operator gone : O) (stops : Bool)
-      (door end : Door (Caller P O)) (p q : Progress) (errors errors_new : Option (List ℕ) × Writes) (s t : S)
+      (door end : Door (Caller P O)) (p q : Progress) (log log_new : Log) (room room_new : Lent) (s t : S)
       → (o : Obeyed tally operator gone stops s t) → IfOk o.audience.told (TellsHowFar far)
-      → WritesTrace o.audience.heard o.audience.told errors errors_new → tally ≡ p.tally
-      → Ends door end (Operator gone) → q.tally ≡ p.tally → q.left ≡ p.left → q.taken ≡ p.taken + 1 → q.stops ≡ (p.stops || stops)
-      → ObeysMeanwhile heeded told shown made counted operator far door end p q errors errors_new s t
-  obeys_meanwhile far tally operator gone stops door end p q errors errors_new s t o tells trace same ended tally_q left
-      taken ends =
+      → WritesTrace o.audience.heard o.audience.told log.0 log_new.0 → log_new.1 ≡ log.1
+      → UsesOnce o.audience.heard room room_new → tally ≡ p.tally
+      → EndsOperator door end gone → q.tally ≡ p.tally → q.left ≡ p.left → q.taken ≡ p.taken + 1 → q.stops ≡ (p.stops || stops)
+      → ObeysMeanwhile heeded told shown made counted operator far door end p q log log_new room room_new s t
+  obeys_meanwhile far tally operator gone stops door end p q log log_new room room_new s t o tells trace faults uses same
+      ended tally_q left taken ends =
       let now : (x : Obeyed p.tally operator gone stops s t) × IfOk x.audience.told (TellsHowFar far)
-      × WritesTrace x.audience.heard x.audience.told errors errors_new =
+      × WritesTrace x.audience.heard x.audience.told log.0 log_new.0 × UsesOnce x.audience.heard room room_new =
       subst (λ u. (x : Obeyed u operator gone stops s t) × IfOk x.audience.told (TellsHowFar far)
-      × WritesTrace x.audience.heard x.audience.told errors errors_new) same (o, tells, trace) in
+      × WritesTrace x.audience.heard x.audience.told log.0 log_new.0 × UsesOnce x.audience.heard room room_new) same
+      (o, tells, trace, uses) in
       record {
         stops = stops;
         gone = gone;
@@ -67,4 +70,6 @@ module _ {O : Type 0} (heeded : O → Account × Reads) (told : O → Option (Li
         ends = ends;
         tells = now.1;
         trace = now.2;
+        faults = faults;
+        uses = now.3;
       }

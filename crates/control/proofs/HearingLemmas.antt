@@ -1,5 +1,5 @@
 -- Hearing an operator's line.
-use Rattle.std.proofs.Common.{◌≡◌, ◌≢◌, ◌∙◌, ◌++◌, ◌∷◌, ℕ, List, [], Option, None, Result, Ok, Err, IfOk, MatchResult}
+use Rattle.std.proofs.Common.{◌≡◌, ◌≢◌, ◌∙◌, ◌++◌, ◌∷◌, ℕ, List, [], Option, Some, None, Result, Ok, Err, IfOk, MatchResult}
 use Rattle.std.proofs.Common.{ap, append_assoc, inl, inr, refl, subst, sym}
 use Rattle.std.proofs.KnownBytes.{Appends-trans}
 use Rattle.std.specs.Io.KnownBytes.{Appends}
@@ -31,7 +31,7 @@ has_end [] is = cc
 has_end (b ∷ bs) is = cc
 
 module _ (made : Making → Type 0) (pinged : Result Health StoreFault → Type 0)
-    (idle : Type 0) (meanwhile : Making → Type 0) (old new : Shown) (u u' : Account) where
+    (idle : Option Heard → Type 0) (meanwhile : Making → Type 0) (old new : Shown) (u u' : Account) where
   was_heard : (got : List ℕ) → ReadsLine u u' got → (heard : Heard) → IsHeardIn got heard → IsHeard u u' heard
   was_heard got reads NoMemory never = absurd never
   was_heard got reads heard from = (got, reads, from)
@@ -68,7 +68,7 @@ module _ (made : Making → Type 0) (pinged : Result Health StoreFault → Type 
   }
 
   -- where memory ran out for the line, nothing was done
-  pub hears_no_memory : (said : Result ControlReply Io) → idle → GoesThroughSteps old new []
+  pub hears_no_memory : (said : Result ControlReply Io) → idle (Some NoMemory) → GoesThroughSteps old new []
       → Hears made pinged idle meanwhile old new u u' [] (told_heard NoMemory) said None
   hears_no_memory said still through = record {
     heard = NoMemory;

@@ -1,5 +1,6 @@
 pub mod LineLemmas
 pub mod FaultLemmas
+pub mod HeardLemmas
 pub mod ReplyLemmas
 pub mod CrashLemmas
 pub mod TaskLemmas
@@ -16,12 +17,15 @@ pub mod StepLemmas
 pub mod TallyLemmas
 pub mod PlainLemmas
 pub mod NotedLemmas
+pub mod CountedLemmas
+pub mod PeerLemmas
 pub mod NoticeLemmas
 pub mod TraceLemmas
 pub mod ShownLemmas
 pub mod ServeLemmas
 pub mod CallsLemmas
 pub mod OrderedLemmas
+pub mod UseLemmas
 pub mod ServingLemmas
 pub mod FarLemmas
 pub mod UnnotedLemmas

@@ -2,14 +2,14 @@
 use Rattle.std.proofs.Common.{◌≡◌, ◌≢◌, ◌∙◌, ℕ, List, [], ◌∷◌, Option, Some, None, Result, Ok, Err, inl, inr, refl}
 use Rattle.std.proofs.Common.{subst, sym, true, false}
 use Rattle.std.specs.Option.{ForSome}
-use Rattle.std.proofs.lemmas.List.Elements.{All-append, All-cons, All-nil}
 use Rattle.std.specs.declared.time.Instant.{Instant}
 use Rattle.histories.specs.Calls.{Writes}
 use Rattle.world.specs.declared.registry.StoreFault.{StoreFault}
 use Rattle.control.specs.Faults.{Admits}
-use Rattle.control.specs.Noted.{AreOf, AreOfRoom, AreUnheld, CountsIf, CountsUnmet, IsAbout, Noted, NotesFault}
-use Rattle.control.specs.Noted.{noted_line}
-use Rattle.control.specs.Notices.{AreOfServer, IsOfServer, IsServerLine, Lost, Met, Occasion, Reserved, WritesLines, room_told}
+use Rattle.control.specs.Noted.{AreOf, AreForPeer, AreOfRoom, AreUnheld, CountsIf, CountsUnmet, IsAbout, Noted}
+use Rattle.control.specs.Noted.{NotesFault, noted_line}
+use Rattle.control.specs.Notices.{AtMostOne, IsLineAbout, IsOfFault, IsOfRoom, Lost, Met, Occasion, Reserved}
+use Rattle.control.specs.Notices.{WritesLines, room_told}
 use Rattle.control.specs.Reserve.{is_whole}
 use Rattle.control.specs.Traffic.{was_found, was_published}
 use Rattle.control.specs.declared.faults.RecentFaults.{RecentFaults}
@@ -86,52 +86,56 @@ no_fault faults old a is =
 -- ---- lines that no order has
 
 -- the line of what is noted of such an occasion is one
-pub server_line : (about : Occasion) (noted : Noted) → IsOfServer about → IsAbout about (Some noted)
-    → IsServerLine (noted_line noted)
-server_line about (Ok notice) of is = ∣ (about, of, is) ∣₁
-server_line about (Err none) of is = ∣ (Lost, tt, refl) ∣₁
+pub line_about : (such : Occasion → Type 0) (about : Occasion) (noted : Noted) → such about → such Lost
+    → IsAbout about (Some noted) → IsLineAbout such (noted_line noted)
+line_about such about (Ok notice) so lost is = ∣ (about, so, is) ∣₁
+line_about such about (Err none) so lost is = ∣ (Lost, lost, refl) ∣₁
 
-abbrev OfServer : Option Noted → Type 0
-OfServer None = Unit {0}
-OfServer (Some noted) = IsServerLine (noted_line noted)
+abbrev OfFault : Option Noted → Type 0
+OfFault None = Unit {0}
+OfFault (Some noted) = IsLineAbout IsOfFault (noted_line noted)
 
--- so it is of what is noted
-pub some_of_server : (noted : Noted) → IsServerLine (noted_line noted)
-    → ForSome (Some noted) (λ n. IsServerLine (noted_line n))
-some_of_server noted is = λ x same. subst OfServer same is
-
-one_of_server : (noted : Noted) → IsServerLine (noted_line noted) → AreOfServer (noted_line noted ∷ [])
-one_of_server noted is = All-cons IsServerLine (noted_line noted) [] is (All-nil IsServerLine)
+-- so it is of what a store noted
+pub some_of_fault : (noted : Noted) → IsLineAbout IsOfFault (noted_line noted)
+    → ForSome (Some noted) (λ n. IsLineAbout IsOfFault (noted_line n))
+some_of_fault noted is = λ x same. subst OfFault same is
 
 -- those of the room on the disk
-room_of_server : (old new : Room) (lines : List (List ℕ)) → AreOfRoom old new lines → AreOfServer lines
-room_of_server old new lines (inl (same, none)) = subst AreOfServer (sym none) (All-nil IsServerLine)
-room_of_server old new lines (inr (changed, told, about, is)) =
-    subst AreOfServer (sym is)
-    (one_of_server told (server_line (Reserved (room_told (is_whole new))) told tt about))
+room_at_most : (old new : Room) (lines : List (List ℕ)) → AreOfRoom old new lines → AtMostOne IsOfRoom lines
+room_at_most old new lines (inl (same, none)) = inl none
+room_at_most old new lines (inr (changed, told, about, is)) = inr (
+  noted_line told,
+  is,
+  line_about IsOfRoom (Reserved (room_told (is_whole new))) told (is_whole new, refl) tt about,
+)
 
-pub room_of_server_written : (old new : Room) (a b : Option (List ℕ) × Writes) → WritesLines (AreOfRoom old new) a b
-    → WritesLines AreOfServer a b
-room_of_server_written old new a b written = written_so (AreOfRoom old new) AreOfServer a b (room_of_server old new) written
+pub room_at_most_written : (old new : Room) (a b : Option (List ℕ) × Writes) → WritesLines (AreOfRoom old new) a b
+    → WritesLines (AtMostOne IsOfRoom) a b
+room_at_most_written old new a b written =
+    written_so (AreOfRoom old new) (AtMostOne IsOfRoom) a b (room_at_most old new) written
 
 -- those of the fault that a store noted
-fault_of_server : (faults faults_new : RecentFaults) (noted : Option Noted) (lines : List (List ℕ))
-    → ForSome noted (λ n. IsServerLine (noted_line n)) → AreUnheld faults faults_new noted lines → AreOfServer lines
-fault_of_server faults faults_new None lines of are = subst AreOfServer (sym are.0) (All-nil IsServerLine)
-fault_of_server faults faults_new (Some noted) lines of (now, true, admits, is) =
-    subst AreOfServer (sym is) (one_of_server noted (of noted refl))
-fault_of_server faults faults_new (Some noted) lines of (now, false, admits, is) =
-    subst AreOfServer (sym is) (All-nil IsServerLine)
+fault_at_most : (faults faults_new : RecentFaults) (noted : Option Noted) (lines : List (List ℕ))
+    → ForSome noted (λ n. IsLineAbout IsOfFault (noted_line n)) → AreUnheld faults faults_new noted lines
+    → AtMostOne IsOfFault lines
+fault_at_most faults faults_new None lines of are = inl are.0
+fault_at_most faults faults_new (Some noted) lines of (now, true, admits, is) =
+    inr (noted_line noted, is, of noted refl)
+fault_at_most faults faults_new (Some noted) lines of (now, false, admits, is) = inl is
 
-pub fault_of_server_written : (faults faults_new : RecentFaults) (noted : Option Noted) (a b : Option (List ℕ) × Writes)
-    → ForSome noted (λ n. IsServerLine (noted_line n)) → WritesLines (AreUnheld faults faults_new noted) a b
-    → WritesLines AreOfServer a b
-fault_of_server_written faults faults_new noted a b of written =
-    written_so (AreUnheld faults faults_new noted) AreOfServer a b
-    (λ lines are. fault_of_server faults faults_new noted lines of are) written
-
--- some, and then others
-pub more_of_server : (a b c : Option (List ℕ) × Writes) → WritesLines AreOfServer a b → WritesLines AreOfServer b c
-    → WritesLines AreOfServer a c
-more_of_server a b c one two =
-    written_then AreOfServer AreOfServer AreOfServer a b c (λ xs ys few more. All-append IsServerLine xs ys few more) one two
+-- those of a peer
+pub peer_written : (old new : Room) (faults faults_new : RecentFaults) (noted : Option Noted)
+    (a b c : Option (List ℕ) × Writes) → ForSome noted (λ n. IsLineAbout IsOfFault (noted_line n))
+    → WritesLines (AreOfRoom old new) a b → WritesLines (AreUnheld faults faults_new noted) b c
+    → WritesLines (AreForPeer faults faults_new) a c
+peer_written old new faults faults_new noted a b c of one two =
+    written_then (AreOfRoom old new) (AreUnheld faults faults_new noted) (AreForPeer faults faults_new) a b c
+    (λ room fault has are. record {
+      room = room;
+      fault = fault;
+      are = refl;
+      of_room = room_at_most old new room has;
+      of_fault = fault_at_most faults faults_new noted fault of are;
+      noted = noted;
+      unheld = are;
+    }) one two

@@ -1,6 +1,6 @@
 -- What is written of what happened.
-use Rattle.std.proofs.Common.{◌≡◌, ◌≢◌, ℕ, nat_eq, Bool, true, false, IsTrue, not, List, [], ◌∷◌, ◌++◌, All, refl}
-use Rattle.std.proofs.Common.{sym}
+use Rattle.std.proofs.Common.{◌≡◌, ◌≢◌, ◌≤◌, ◌<◌, ◌⊎◌, ℕ, nat_eq, Bool, true, false, IsTrue, not, List, [], ◌∷◌, ◌++◌, All}
+use Rattle.std.proofs.Common.{refl, sym}
 use Rattle.std.proofs.Common.{ap, ◌∙◌, subst, Option, None, Some, Result, Ok, Err, inl, inr, append_assoc, append-nil}
 use Rattle.std.proofs.Common.{arith}
 use Rattle.std.proofs.KnownBytes.{Appends-kept, Appends-nil, Appends-trans}
@@ -19,7 +19,8 @@ use Rattle.engine.specs.declared.fault.Io.{Io}
 use Rattle.keyring.specs.KeyList.{fingerprint}
 use Rattle.modver.specs.SemanticVersion.{version_text}
 use Rattle.control.specs.Notices.{Answer, Occasion, Opened, Uncounted, Ordered, Copied, Catalogued, Answered, Reserved, Met}
-use Rattle.control.specs.Notices.{Ended, Lost, EndsLine, IsNotice, IsPiece, NoneIsRefusal, WritesLines, WritesNotices}
+use Rattle.control.specs.Notices.{AreBegun, Ended, Lost, EndsLine, IsNotice, IsPiece, NoneIsRefusal}
+use Rattle.control.specs.Notices.{WritesLines, WritesNotices}
 use Rattle.control.specs.Notices.{behind_team, errand_words}
 use Rattle.control.specs.Notices.{has_group, has_shelf, joined, line_of, name_if, plain, right_words, shown_words}
 use Rattle.control.specs.Outcome.{outcome_of, outcome_of_catalog, outcome_of_copy}
@@ -90,67 +91,87 @@ pub notices_kept : (a b c : Option (List ℕ)) → WritesNotices a b → Keeps b
 notices_kept a b c written kept =
     record { text = written.text; lines = written.lines; writes = Appends-kept a b c written.text written.writes kept }
 
--- ---- writing whole lines
+-- ---- writing lines
+
+begun_both : (ps qs xs ys : List (List ℕ)) → AreBegun ps xs → AreBegun qs ys → AreBegun (ps ++ qs) (xs ++ ys)
+begun_both [] qs [] ys one two = two
+begun_both (p ∷ ps) qs (x ∷ xs) ys one two = (one.0, begun_both ps qs xs ys one.1 two)
+begun_both [] qs (x ∷ xs) ys one two = absurd one
+begun_both (p ∷ ps) qs [] ys one two = absurd one
+
+-- one line, whole or not
+one_line : (line piece rest : List ℕ) (a b : Option (List ℕ) × calls.Writes) → IsNotice line → line ≡ piece ++ rest
+    → Appends a.0 b.0 piece → a.1.failed ≤ b.1.failed
+    → (a.1.failed < b.1.failed) ⊎ ((piece ≡ line) × (a.1.unflushed ≡ [] → b.1.unflushed ≡ []))
+    → WritesLines (λ lines. lines ≡ line ∷ []) a b
+one_line line piece rest a b is front writes fewer whole = record {
+  lines = line ∷ [];
+  each = All-cons IsNotice line [] is (All-nil IsNotice);
+  so = refl;
+  pieces = piece ∷ [];
+  begun = ((rest, front), tt);
+  writes = subst (Appends a.0 b.0) (sym (append-nil piece)) writes;
+  no_fewer = fewer;
+  whole = elim whole [
+    | inl failed ↦ inl failed
+    | inr all ↦ inr (ap (λ p. p ∷ []) all.0, all.1)
+  ];
+}
 
 -- a line was written and flushed, or a call failed
 pub line_written : {F : Type 0} (line : List ℕ) (a b c : Option (List ℕ)) (u v w : calls.Writes)
     (wrote : Result (Unit {0}) Io) (flushed : Result (Unit {0}) F) → IsNotice line → Writes a b line wrote
     → FailsWith u.failed v.failed wrote → Keeps b c → CallsFlush v w flushed
     → WritesLines (λ lines. lines ≡ line ∷ []) (a, u) (c, w)
-line_written line a b c u v w (Ok done) (Ok settled) is writes fails kept flush = record {
-  no_fewer = omega (arith, fails, flush.1);
-  whole = inr (record {
-    lines = line ∷ [];
-    each = All-cons IsNotice line [] is (All-nil IsNotice);
-    so = refl;
-    writes = Appends-kept a b c (line ++ []) (subst (Appends a b) (sym (append-nil line)) writes) kept;
-    flushed = λ before. flush.0;
-  });
-}
-line_written line a b c u v w (Ok done) (Err e) is writes fails kept flush = record {
-  no_fewer = omega (arith, fails, flush.1);
-  whole = inl (omega (arith, fails, flush.1));
-}
-line_written line a b c u v w (Err why) (Ok settled) is writes fails kept flush = record {
-  no_fewer = omega (arith, fails, flush.1);
-  whole = inl (omega (arith, fails, flush.1));
-}
-line_written line a b c u v w (Err why) (Err e) is writes fails kept flush = record {
-  no_fewer = omega (arith, fails, flush.1);
-  whole = inl (omega (arith, fails, flush.1));
-}
+line_written line a b c u v w (Ok done) (Ok settled) is writes fails kept flush =
+    one_line line line [] (a, u) (c, w) is (sym (append-nil line)) (Appends-kept a b c line writes kept)
+    (omega (arith, fails, flush.1)) (inr (refl, λ before. flush.0))
+line_written line a b c u v w (Ok done) (Err e) is writes fails kept flush =
+    one_line line line [] (a, u) (c, w) is (sym (append-nil line)) (Appends-kept a b c line writes kept)
+    (omega (arith, fails, flush.1)) (inl (omega (arith, fails, flush.1)))
+line_written line a b c u v w (Err why) (Ok settled) is writes fails kept flush =
+    let begun = writes.1 in
+    one_line line begun.0 begun.1.0 (a, u) (c, w) is begun.1.2 (Appends-kept a b c begun.0 begun.2 kept)
+    (omega (arith, fails, flush.1)) (inl (omega (arith, fails, flush.1)))
+line_written line a b c u v w (Err why) (Err e) is writes fails kept flush =
+    let begun = writes.1 in
+    one_line line begun.0 begun.1.0 (a, u) (c, w) is begun.1.2 (Appends-kept a b c begun.0 begun.2 kept)
+    (omega (arith, fails, flush.1)) (inl (omega (arith, fails, flush.1)))
 
 -- nothing was written
 pub none_written : (are : List (List ℕ) → Type 0) (a : Option (List ℕ) × calls.Writes) → are [] → WritesLines are a a
 none_written are a so = record {
+  lines = [];
+  each = All-nil IsNotice;
+  so = so;
+  pieces = [];
+  begun = tt;
+  writes = Appends-nil a.0;
   no_fewer = omega arith;
-  whole = inr (record {
-    lines = [];
-    each = All-nil IsNotice;
-    so = so;
-    writes = Appends-nil a.0;
-    flushed = λ before. before;
-  });
+  whole = inr (refl, λ before. before);
 }
 
 -- lines, and then others
 pub written_then : (one two both : List (List ℕ) → Type 0) (a b c : Option (List ℕ) × calls.Writes)
     → ((xs ys : List (List ℕ)) → one xs → two ys → both (xs ++ ys)) → WritesLines one a b → WritesLines two b c
     → WritesLines both a c
-written_then one two both a b c join first next = record {
-  no_fewer = omega (arith, first.no_fewer, next.no_fewer);
-  whole = elim first.whole [
-    | inl failed ↦ inl (omega (arith, failed, next.no_fewer))
-    | inr xs ↦ elim next.whole [
-      | inl failed ↦ inl (omega (arith, first.no_fewer, failed))
-      | inr ys ↦ inr (record {
-        lines = xs.lines ++ ys.lines;
-        each = All-append IsNotice xs.lines ys.lines xs.each ys.each;
-        so = join xs.lines ys.lines xs.so ys.so;
-        writes = subst (Appends a.0 c.0) (sym (joined_both xs.lines ys.lines))
-            (Appends-trans a.0 b.0 c.0 (joined xs.lines) (joined ys.lines) xs.writes ys.writes);
-        flushed = λ before. ys.flushed (xs.flushed before);
-      })
+written_then one two both a b c join xs ys = record {
+  lines = xs.lines ++ ys.lines;
+  each = All-append IsNotice xs.lines ys.lines xs.each ys.each;
+  so = join xs.lines ys.lines xs.so ys.so;
+  pieces = xs.pieces ++ ys.pieces;
+  begun = begun_both xs.pieces ys.pieces xs.lines ys.lines xs.begun ys.begun;
+  writes = subst (Appends a.0 c.0) (sym (joined_both xs.pieces ys.pieces))
+      (Appends-trans a.0 b.0 c.0 (joined xs.pieces) (joined ys.pieces) xs.writes ys.writes);
+  no_fewer = omega (arith, xs.no_fewer, ys.no_fewer);
+  whole = elim xs.whole [
+    | inl failed ↦ inl (omega (arith, failed, ys.no_fewer))
+    | inr first ↦ elim ys.whole [
+      | inl failed ↦ inl (omega (arith, xs.no_fewer, failed))
+      | inr next ↦ inr (
+        ap (λ p. p ++ ys.pieces) first.0 ∙ ap (λ p. xs.lines ++ p) next.0,
+        λ before. next.1 (first.1 before),
+      )
     ]
   ];
 }
@@ -159,17 +180,14 @@ written_then one two both a b c join first next = record {
 pub written_so : (one two : List (List ℕ) → Type 0) (a b : Option (List ℕ) × calls.Writes)
     → ((lines : List (List ℕ)) → one lines → two lines) → WritesLines one a b → WritesLines two a b
 written_so one two a b other first = record {
+  lines = first.lines;
+  each = first.each;
+  so = other first.lines first.so;
+  pieces = first.pieces;
+  begun = first.begun;
+  writes = first.writes;
   no_fewer = first.no_fewer;
-  whole = elim first.whole [
-    | inl failed ↦ inl failed
-    | inr xs ↦ inr (record {
-      lines = xs.lines;
-      each = xs.each;
-      so = other xs.lines xs.so;
-      writes = xs.writes;
-      flushed = xs.flushed;
-    })
-  ];
+  whole = first.whole;
 }
 
 -- ---- no line begins with a `g`

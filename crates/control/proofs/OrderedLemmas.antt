@@ -8,11 +8,13 @@ use Rattle.world.specs.Store.{Shown}
 use Rattle.world.specs.declared.registry.StoreFault.{StoreFault}
 use Rattle.interleave.specs.Interleave.{IsAsItWas}
 use Rattle.engine.specs.declared.fault.Io.{Io}
+use Rattle.engine.specs.declared.fault.Io.TheVariants as io
 use Rattle.control.specs.Copying.{Making, OfKey, ToPath, GoesThroughSteps, IsBusy, IsOnlyRead}
 use Rattle.control.specs.Hearing.{Heard, Carried, Pinged, Listed, Named, Stop, NoOrder, NoMemory}
-use Rattle.control.specs.Hearing.{told_of_making}
+use Rattle.control.specs.Hearing.{Obeys, told_of_making}
+use Rattle.control.specs.Noted.{Noted}
 use Rattle.control.specs.Hearing as hearing
-use Rattle.control.specs.Visits.{GoesIf}
+use Rattle.control.specs.Visits.{GoesIf, IsLong}
 use Rattle.control.specs.Visits.{ObeysOne}
 use Rattle.control.specs.Visits.{steps_if}
 use Rattle.control.specs.declared.copies.CatalogRefusal.TheVariants as unprinted
@@ -24,30 +26,38 @@ use Rattle.control.specs.declared.control_reply.ControlReply.TheVariants as spok
 use Rattle.control.proofs.TaskLemmas.{tasks_read}
 
 -- an order was carried out that has nothing made, or one that has this made
-pub data Ordered (idle : Type 0) (meanwhile : Making → Type 0) (old new : Shown) (heard : Option Heard) : Type 0 where
-  Other : idle → GoesThroughSteps old new (steps_if heard) → Ordered idle meanwhile old new heard
+pub data Ordered (idle : Option Heard → Type 0) (meanwhile : Making → Type 0) (old new : Shown)
+    (heard : Option Heard) : Type 0 where
+  Other : idle heard → GoesThroughSteps old new (steps_if heard) → ¬ IsLong heard → Ordered idle meanwhile old new heard
   ToMake : (making : Making) → heard ≡ Some (hearing.Made making) → meanwhile making
       → Ordered idle meanwhile old new heard
 
-pub ordered_if : (idle : Type 0) (meanwhile : Making → Type 0) (old new : Shown) (heard : Option Heard)
+pub ordered_if : (idle : Option Heard → Type 0) (meanwhile : Making → Type 0) (old new : Shown) (heard : Option Heard)
     → GoesIf idle meanwhile old new heard → Ordered idle meanwhile old new heard
-ordered_if idle meanwhile old new None goes = Other goes.0 goes.1
-ordered_if idle meanwhile old new (Some (Carried command told)) goes = Other goes.0 goes.1
+ordered_if idle meanwhile old new None goes = Other goes.0 goes.1 (λ long. long)
+ordered_if idle meanwhile old new (Some (Carried command told)) goes = Other goes.0 goes.1 (λ long. long)
 ordered_if idle meanwhile old new (Some (hearing.Made making)) goes = ToMake making refl goes
-ordered_if idle meanwhile old new (Some (Pinged told)) goes = Other goes.0 goes.1
-ordered_if idle meanwhile old new (Some (Listed listing told)) goes = Other goes.0 goes.1
-ordered_if idle meanwhile old new (Some (Named f naming)) goes = Other goes.0 goes.1
-ordered_if idle meanwhile old new (Some Stop) goes = Other goes.0 goes.1
-ordered_if idle meanwhile old new (Some NoOrder) goes = Other goes.0 goes.1
-ordered_if idle meanwhile old new (Some NoMemory) goes = Other goes.0 goes.1
+ordered_if idle meanwhile old new (Some (Pinged told)) goes = Other goes.0 goes.1 (λ long. long)
+ordered_if idle meanwhile old new (Some (Listed listing told)) goes = Other goes.0 goes.1 (λ long. long)
+ordered_if idle meanwhile old new (Some (Named f naming)) goes = Other goes.0 goes.1 (λ long. long)
+ordered_if idle meanwhile old new (Some Stop) goes = Other goes.0 goes.1 (λ long. long)
+ordered_if idle meanwhile old new (Some NoOrder) goes = Other goes.0 goes.1 (λ long. long)
+ordered_if idle meanwhile old new (Some NoMemory) goes = Other goes.0 goes.1 (λ long. long)
 
 -- where the store was only read for it, it went through the steps of what was ordered
-pub through_told : (idle : Type 0) (old new : Shown) (heard : Option Heard)
+pub through_told : (idle : Option Heard → Type 0) (old new : Shown) (heard : Option Heard)
     → Ordered idle (λ making. IsOnlyRead old new × IsBusy making) old new heard
     → GoesThroughSteps old new (steps_if heard)
-through_told idle old new heard (Other still through) = through
+through_told idle old new heard (Other still through short) = through
 through_told idle old new heard (ToMake making is read) =
     subst (λ h. GoesThroughSteps old new (steps_if h)) (sym is) (tasks_read old new read.0)
+
+-- where another thing is being made, none is made for it
+pub short_told : (idle : Option Heard → Type 0) (old new : Shown) (heard : Option Heard)
+    → Ordered idle (λ making. IsOnlyRead old new × IsBusy making) old new heard
+    → ¬ IsLong heard
+short_told idle old new heard (Other still through short) = short
+short_told idle old new heard (ToMake making is read) = subst (λ h. ¬ IsLong h) (sym is) (λ long. long read.1)
 
 -- nothing else was done
 pub only_read : (old new : Shown) → IsAsItWas old new → IsOnlyRead old new
@@ -84,36 +94,53 @@ or_not false true off = absurd (off refl)
 or_not false false off = refl
 
 -- either way this holds
-pub either_way : (R idle : Type 0) (meanwhile : Making → Type 0) (old new : Shown) (heard : Option Heard) → (idle → R)
-    → ((making : Making) → meanwhile making → R) → Ordered idle meanwhile old new heard → R
-either_way R idle meanwhile old new heard one two (Other rests through) = one rests
-either_way R idle meanwhile old new heard one two (ToMake making is done) = two making done
+pub either_way : (R : Type 0) (idle : Option Heard → Type 0) (meanwhile : Making → Type 0) (old new : Shown)
+    (heard : Option Heard) → Ordered idle meanwhile old new heard → (idle heard → R)
+    → ((making : Making) → meanwhile making → R) → R
+either_way R idle meanwhile old new heard (Other rests through short) one two = one rests
+either_way R idle meanwhile old new heard (ToMake making is done) one two = two making done
+
+-- so it is of an operator who was obeyed
+pub obeys_either : (R : Type 0) (made : Making → Type 0) (pinged : Result Health StoreFault → Type 0)
+    (idle : Option Heard → Type 0) (meanwhile : Making → Type 0) (old new : Shown) (u v : Account)
+    (w x : Option (List ℕ)) (result : Result ControlReply Io) (noted : Option Noted)
+    → ((heard : Option Heard) → idle heard → R) → ((making : Making) → meanwhile making → R)
+    → Obeys made pinged idle meanwhile old new u v w x result noted → R
+obeys_either R made pinged idle meanwhile old new u v w x (Ok told) noted one two obeys =
+    either_way R idle meanwhile old new (Some obeys.1.heard)
+    (ordered_if idle meanwhile old new (Some obeys.1.heard) obeys.1.through) (one (Some obeys.1.heard)) two
+obeys_either R made pinged idle meanwhile old new u v w x (Err io.Read) noted one two obeys = one None obeys.0
+obeys_either R made pinged idle meanwhile old new u v w x (Err io.Write) noted one two obeys =
+    either_way R idle meanwhile old new (Some obeys.2.heard)
+    (ordered_if idle meanwhile old new (Some obeys.2.heard) obeys.2.through) (one (Some obeys.2.heard)) two
 
 -- what is unsaid of those who make copies
-goes_unsaid : (idle : Type 0) (meanwhile : Making → Type 0) (old new : Shown) (heard : Option Heard) → GoesIf idle meanwhile old new heard
-    → GoesIf (Unit {0}) meanwhile old new heard
-goes_unsaid idle meanwhile old new None goes = (tt, goes.1)
-goes_unsaid idle meanwhile old new (Some (Carried command told)) goes = (tt, goes.1)
-goes_unsaid idle meanwhile old new (Some (hearing.Made making)) goes = goes
-goes_unsaid idle meanwhile old new (Some (Pinged told)) goes = (tt, goes.1)
-goes_unsaid idle meanwhile old new (Some (Listed listing told)) goes = (tt, goes.1)
-goes_unsaid idle meanwhile old new (Some (Named f naming)) goes = (tt, goes.1)
-goes_unsaid idle meanwhile old new (Some Stop) goes = (tt, goes.1)
-goes_unsaid idle meanwhile old new (Some NoOrder) goes = (tt, goes.1)
-goes_unsaid idle meanwhile old new (Some NoMemory) goes = (tt, goes.1)
+goes_unsaid : (idle : Option Heard → Type 0) (meanwhile still : Making → Type 0) (old new : Shown)
+    (heard : Option Heard) → ((making : Making) → meanwhile making → still making)
+    → GoesIf idle meanwhile old new heard → GoesIf (λ _. Unit {0}) still old new heard
+goes_unsaid idle meanwhile still old new None so goes = (tt, goes.1)
+goes_unsaid idle meanwhile still old new (Some (Carried command told)) so goes = (tt, goes.1)
+goes_unsaid idle meanwhile still old new (Some (hearing.Made making)) so goes = so making goes
+goes_unsaid idle meanwhile still old new (Some (Pinged told)) so goes = (tt, goes.1)
+goes_unsaid idle meanwhile still old new (Some (Listed listing told)) so goes = (tt, goes.1)
+goes_unsaid idle meanwhile still old new (Some (Named f naming)) so goes = (tt, goes.1)
+goes_unsaid idle meanwhile still old new (Some Stop) so goes = (tt, goes.1)
+goes_unsaid idle meanwhile still old new (Some NoOrder) so goes = (tt, goes.1)
+goes_unsaid idle meanwhile still old new (Some NoMemory) so goes = (tt, goes.1)
 
 pub obeys_unsaid : {O : Type 0} (heeded : O → Account × Reads) (told : O → Option (List ℕ) × Writes)
     (made : Making → Type 0) (pinged : Result Health StoreFault → Type 0)
-    (idle : Type 0) (meanwhile : Making → Type 0) (old new : Shown) (operator gone : O) (stops : Bool)
+    (idle : Option Heard → Type 0) (meanwhile still : Making → Type 0) (old new : Shown) (operator gone : O)
+    (stops : Bool) → ((making : Making) → meanwhile making → still making)
     → ObeysOne heeded told made pinged idle meanwhile operator gone stops old new
-    → ObeysOne heeded told made pinged (Unit {0}) meanwhile operator gone stops old new
-obeys_unsaid heeded told made pinged idle meanwhile old new operator gone stops next = record {
+    → ObeysOne heeded told made pinged (λ _. Unit {0}) still operator gone stops old new
+obeys_unsaid heeded told made pinged idle meanwhile still old new operator gone stops so next = record {
   audience = next.audience;
   begins = next.begins;
   leaves = next.leaves;
   there = next.there;
   stopped = next.stopped;
-  through = goes_unsaid idle meanwhile old new next.audience.heard next.through;
+  through = goes_unsaid idle meanwhile still old new next.audience.heard so next.through;
   came = next.came;
   lists = next.lists;
 }
@@ -121,8 +148,20 @@ obeys_unsaid heeded told made pinged idle meanwhile old new operator gone stops 
 -- that changes nothing of what was heard and told
 pub unsaid_audience : {O : Type 0} (heeded : O → Account × Reads) (told : O → Option (List ℕ) × Writes)
     (made : Making → Type 0) (pinged : Result Health StoreFault → Type 0)
-    (idle : Type 0) (meanwhile : Making → Type 0) (old new : Shown) (operator gone : O) (stops : Bool)
+    (idle : Option Heard → Type 0) (meanwhile still : Making → Type 0) (old new : Shown) (operator gone : O)
+    (stops : Bool) (so : (making : Making) → meanwhile making → still making)
     → (next : ObeysOne heeded told made pinged idle meanwhile operator gone stops old new)
-    → (obeys_unsaid heeded told made pinged idle meanwhile old new operator gone stops next).audience ≡ next.audience
+    → (obeys_unsaid heeded told made pinged idle meanwhile still old new operator gone stops so next).audience
+    ≡ next.audience
 unfolding obeys_unsaid
-unsaid_audience heeded told made pinged idle meanwhile old new operator gone stops next = refl
+unsaid_audience heeded told made pinged idle meanwhile still old new operator gone stops so next = refl
+
+-- of an operator who was obeyed, either way this holds
+pub obeyed_either : {O : Type 0} (heeded : O → Account × Reads) (told : O → Option (List ℕ) × Writes)
+    (made : Making → Type 0) (pinged : Result Health StoreFault → Type 0)
+    (idle : Option Heard → Type 0) (meanwhile : Making → Type 0) (old new : Shown) (operator gone : O) (stops : Bool)
+    (R : Type 0) → ObeysOne heeded told made pinged idle meanwhile operator gone stops old new
+    → ((heard : Option Heard) → idle heard → R) → ((making : Making) → meanwhile making → R) → R
+obeyed_either heeded told made pinged idle meanwhile old new operator gone stops R next one two =
+    either_way R idle meanwhile old new next.audience.heard
+    (ordered_if idle meanwhile old new next.audience.heard next.through) (one next.audience.heard) two

@@ -10,7 +10,6 @@ use Rattle.std.proofs.lemmas.List.{length-append, length-take-le, take-append-dr
 use Rattle.histories.specs.Account.{Account, Gives}
 use Rattle.histories.proofs.AccountLemmas.{Gives-trans}
 use Rattle.histories.specs.Calls.{Reads}
-use Rattle.engine.specs.Causes.{IsUnreadable, most_reads}
 use Rattle.world.specs.declared.registry.RegistryReply.TheVariants as registered
 use Rattle.world.specs.declared.registry.StoreFault.TheVariants as fault
 use Rattle.orders.specs.Order.{Ordered, ListOf, Ping, Stop, Copy, Catalog, RevokeByFingerprint, Registry}
@@ -22,7 +21,7 @@ use Rattle.orders.proofs.OutcomeLemmas.{one_outcome}
 use Rattle.control.specs.Asking.{EndsBy, HasNoBound, IsAsked, IsLastFrom, IsListed, IsNone, IsNoList, IsNoOutcomeIn, IsNoReply}
 use Rattle.control.specs.Asking.{IsOutcomeIn, IsReplyTo, IsSent, OrderGets, RepliesBy, extent_of, is_done}
 use Rattle.control.specs.Health.{IsHealthLine}
-use Rattle.control.specs.Line.{Comes, ComesWith, HasTried, IsAll, IsPartAfter, LacksRoom, ReadsMore, ReadsReply}
+use Rattle.control.specs.Line.{Comes, ComesWith, HearsReply, IsAll, IsPartAfter, LacksRoom, ReadsMore, ReadsReply}
 use Rattle.control.specs.Line.{longest_outcome, most_read, reply_room}
 use Rattle.control.specs.Listing.{AreLines}
 use Rattle.control.specs.declared.client.OrderReply.{OrderReply}
@@ -270,12 +269,6 @@ more_again a b c x y z first next = record {
   behind = next.behind ∙ ap (λ l. l ++ next.bytes) first.behind ∙ append_assoc x first.bytes next.bytes;
 }
 
-pub tried_again : (n : ℕ) (r s t : Reads) → HasTried n r s → HasTried 1 s t → HasTried (n + 1) r t
-tried_again n r s t (inl failed, few) (next, more) = (inl (omega (arith, failed, more)), omega (arith, few, more))
-tried_again n r s t (inr begun, few) (inl failed, more) =
-    (inl (omega (arith, few, failed)), omega (arith, few, more))
-tried_again n r s t (inr begun, few) (inr one, more) = (inr (omega (arith, begun, one)), omega (arith, few, more))
-
 -- a line that has no more bytes than before
 pub part_again : (extent : Extent) (x y z : ℕ) → IsPartAfter extent x y → IsPartAfter extent y z
     → IsPartAfter extent x z
@@ -308,13 +301,13 @@ comes_with extent Late got got_new len len_new a same comes = absurd comes
 -- ---- an order and its reply
 
 -- the line was not sent, and nothing was read
-pub unasked : (T : Type 0) (a : Account) (r : Reads) (w w' : Option (List ℕ)) (f f' : ℕ) (o : Ordered) (why : SendError)
-    → IsSent w w' {T = T} f f' o (Err why) → OrderGets a a r r w w' f f' o (Err why)
-unasked T a r w w' f f' o sending.Words (never, same) = (never, same, refl)
-unasked T a r w w' f f' o sending.Memory same = (same, refl)
-unasked T a r w w' f f' o sending.Io cut = inl (cut, refl)
-unasked T a r w w' f f' o sending.NoReply never = absurd never
-unasked T a r w w' f f' o sending.ReplyMemory never = absurd never
+pub unasked : (T : Type 0) (on : Bool) (a : Account) (r : Reads) (w w' : Option (List ℕ)) (f f' : ℕ) (o : Ordered)
+    (why : SendError) → IsSent w w' {T = T} f f' o (Err why) → OrderGets on a a r r w w' f f' o (Err why)
+unasked T on a r w w' f f' o sending.Words (never, same) = (never, same, refl, refl)
+unasked T on a r w w' f f' o sending.Memory same = (same, refl, refl)
+unasked T on a r w w' f f' o sending.Io cut = inl (cut, refl, refl)
+unasked T on a r w w' f f' o sending.NoReply never = absurd never
+unasked T on a r w w' f f' o sending.ReplyMemory never = absurd never
 
 -- a line that begins with its room needs no other memory
 lacks : (extent : Extent) → LacksRoom extent reply_room 0 → extent ≡ Stream
@@ -329,25 +322,27 @@ has_no_bound o capacity len room none lack =
     (subst (λ c. LacksRoom (extent_of o) c len) room lack))
 
 -- the line of an order was sent, and its reply was read, or not all of it
-pub gets : (o : Ordered) (a b : Account) (r r' : Reads) (w w' : Option (List ℕ)) (f f' : ℕ) (got : List ℕ)
+pub gets : (on : Bool) (o : Ordered) (a b : Account) (r r' : Reads) (w w' : Option (List ℕ)) (f f' : ℕ) (got : List ℕ)
     (capacity len : ℕ) (read : Result (Unit {0}) ReadError) (told : Result OrderReply SendError)
     → capacity ≡ reply_room → len ≡ 0 → IsAsked w w' o
     → OnOk read (ReadsReply (extent_of o) a b [] got)
-    → IfErr read (λ why. why ≡ unread.Io → IsUnreadable most_reads r r')
+    → HearsReply on r r' read
     → IfErr read (λ why. why ≡ unread.Memory → LacksRoom (extent_of o) capacity len)
-    → RepliesBy o got read told → OrderGets a b r r' w w' f f' o told
-gets o a b r r' w w' f f' got capacity len (Ok u) (Ok told) room none asked reads cause memory is =
-    (asked, (got, subst (Gives a b) (sym reads.more.behind) reads.more.gives, is))
-gets o a b r r' w w' f f' got capacity len (Ok u) (Err why) room none asked reads cause memory (is, wrong) =
-    subst (λ x. OrderGets a b r r' w w' f f' o (Err x)) (sym is) (
+    → RepliesBy o got read told → OrderGets on a b r r' w w' f f' o told
+gets on o a b r r' w w' f f' got capacity len (Ok u) (Ok told) room none asked reads hears memory is =
+    (asked, (got, subst (Gives a b) (sym reads.more.behind) reads.more.gives, is), hears)
+gets on o a b r r' w w' f f' got capacity len (Ok u) (Err why) room none asked reads hears memory (is, wrong) =
+    subst (λ x. OrderGets on a b r r' w w' f f' o (Err x)) (sym is) (
       asked,
       (
         got,
         subst (Gives a b) (sym reads.more.behind) reads.more.gives,
         no_reply o got b.is_over reads.all wrong,
       ),
+      hears,
     )
-gets o a b r r' w w' f f' got capacity len (Err unread.Io) told room none asked reads cause memory is =
-    subst (OrderGets a b r r' w w' f f' o) (sym is) (inr (asked, cause refl))
-gets o a b r r' w w' f f' got capacity len (Err unread.Memory) told room none asked reads cause memory is =
-    subst (OrderGets a b r r' w w' f f' o) (sym is) (asked, has_no_bound o capacity len room none (memory refl))
+gets on o a b r r' w w' f f' got capacity len (Err unread.Io) told room none asked reads hears memory is =
+    subst (OrderGets on a b r r' w w' f f' o) (sym is) (inr (asked, hears))
+gets on o a b r r' w w' f f' got capacity len (Err unread.Memory) told room none asked reads hears memory is =
+    subst (OrderGets on a b r r' w w' f f' o) (sym is)
+    (asked, has_no_bound o capacity len room none (memory refl), hears)

@@ -9,14 +9,13 @@ use Rattle.histories.specs.Calls.{Reads, Writes}
 use Rattle.world.specs.Store.{Shown}
 use Rattle.world.specs.declared.registry.StoreFault.{StoreFault}
 use Rattle.engine.specs.Causes.{IsCaused, IsCausedIn}
-use Rattle.engine.specs.First.{First, Answers as Message, Closes, ServesHeard}
+use Rattle.engine.specs.First.{First, Answers as Message, Closes}
 use Rattle.engine.specs.Store.{GoesThrough}
 use Rattle.engine.specs.declared.fault.Io.{Io}
 use Rattle.engine.specs.declared.fault.Io.TheVariants as io
 use Rattle.socket.specs.Connections.{Come, exchanges_of}
-use Rattle.socket.specs.History.{Door}
+use Rattle.socket.specs.History.{Door, Known}
 use Rattle.control.specs.Copying.{Making, OfTask, tasks_in, has_read, GoesOnRead, GoesThroughSteps}
-use Rattle.control.specs.Health.{Answered}
 use Rattle.control.specs.Hearing.{Heard, Carried, Made, Listed, Pinged, Named, Stop, NoOrder, NoMemory}
 use Rattle.control.specs.Hearing.{Obeys, WritesSome, bytes_heard, printed_heard, told_heard}
 use Rattle.control.specs.Line.{most_tries}
@@ -27,7 +26,7 @@ use Rattle.control.specs.ControlReply.{bytes_told}
 use Rattle.control.specs.Tasks.{Asked, messages, GoesOn}
 use Rattle.control.specs.Traces.{WritesTrace}
 use Rattle.control.specs.Visits.{Call, OfPeer, OfOperator, Untaken, steps_if}
-use Rattle.control.specs.Visits.{steps_with, peers, AnswersOne, ObeysOne}
+use Rattle.control.specs.Visits.{steps_with, peers, ObeysOne}
 use Rattle.control.specs.Visits.{ReadsEach}
 use Rattle.socket.specs.declared.callers.Caller.{Caller}
 use Rattle.control.specs.declared.health.Health.{Health}
@@ -76,7 +75,7 @@ written_so writes printed told heard prints tells so =
 
 module _ {O : Type 0} (heeded : O → Account × Reads) (told : O → Option (List ℕ) × Writes)
     (made : Making → Type 0)
-    (pinged : Result Health StoreFault → Type 0) (idle : Type 0) (meanwhile : Making → Type 0) (old new : Shown) where
+    (pinged : Result Health StoreFault → Type 0) (idle : Option Heard → Type 0) (meanwhile : Making → Type 0) (old new : Shown) where
   -- an operator was obeyed, where a failure has its cause
   pub obeyed_one : (operator after : O) (stops : Bool) (result : Result ControlReply Io) (noted : Option Noted)
       → Obeys made pinged idle meanwhile old new (heeded operator).0 (heeded after).0 (told operator).0
@@ -156,33 +155,6 @@ module _ {O : Type 0} (heeded : O → Account × Reads) (told : O → Option (Li
   obeyed_trace operator after stops (Err io.Write) done noted obeys cause stopped errors errors_new notes written =
       trace_of (Some obeys.2.heard) (Err io.Write) done noted errors errors_new obeys.2.from.1 notes written
 
--- a peer was answered, where a failure has its cause
-pub answered_one : {P : Type 0} (heard : P → Account × Reads) (written : P → Option (List ℕ) × Writes) (old new : Shown)
-    (peer after : P) (told : Answered)
-    → ServesHeard old new (heard peer).0 (heard after).0 (written peer).0 (written after).0 told
-    → IfErr told (IsCaused (heard peer).1 (heard after).1 (written peer).1 (written after).1)
-    → AnswersOne heard written peer after old new told
-answered_one heard written old new peer after (Ok status) (first, takes, through, is, ended) cause = record {
-  answers = record { first = Some first; there = (takes, inr ended); through = through };
-  counts = is;
-  cause = λ unwritten. cc;
-}
-answered_one heard written old new peer after (Err io.Read) (got, consumed, unfinished, through, same) cause = record {
-  answers = record { first = None; there = (same, cause); through = through };
-  counts = refl;
-  cause = λ unwritten. cc;
-}
-answered_one heard written old new peer after (Err io.Write) (first, takes, through, inl begun) cause = record {
-  answers = record { first = Some first; there = (takes, inl (begun, cause)); through = through };
-  counts = refl;
-  cause = λ unwritten. cause;
-}
-answered_one heard written old new peer after (Err io.Write) (first, takes, through, inr ended) cause = record {
-  answers = record { first = Some first; there = (takes, inr ended); through = through };
-  counts = refl;
-  cause = λ unwritten. cause;
-}
-
 -- ---- those who come
 
 pub none_come : {C : Type 0} (waiting : Option (List C)) → Come waiting waiting []
@@ -220,12 +192,12 @@ module _ {P O : Type 0} where
   one_each (Untaken ∷ calls) = one_each calls
 
   module _ (heeded : O → Account × Reads) (told : O → Option (List ℕ) × Writes)
-      (heard : P → Account × Reads) (written : P → Option (List ℕ) × Writes) (is_new : Caller P O → Type 0)
+      (heard : P → Account × Reads) (written : P → Option (List ℕ) × Writes) (known : Known P O)
       {S : Type 0} (shown : S → Shown) (made : S → S → Making → Type 0)
       (counted : S → S → ℕ → Type 0) where
     -- one run of the machine
     pub each_goes : (since : List ℕ) (door end : Door (Caller P O)) (s t : S) (n : ℕ)
-        → ReadsEach heeded told heard written shown made counted is_new door end s t since n
+        → ReadsEach heeded told heard written shown made counted known door end s t since n
         → GoesOn (shown s) (shown t) n
     each_goes since door end s t n all = record {
       tasks = tasks_in (steps_with all.each.calls);
@@ -236,7 +208,7 @@ module _ {P O : Type 0} where
 
     -- one run with the copies and the pings that were answered in it
     pub each_read : (since : List ℕ) (door end : Door (Caller P O)) (s t : S) (n : ℕ)
-        → ReadsEach heeded told heard written shown made counted is_new door end s t since n
+        → ReadsEach heeded told heard written shown made counted known door end s t since n
         → GoesOnRead shown made counted s t since n
     each_read since door end s t n all = record {
       steps = steps_with all.each.calls;

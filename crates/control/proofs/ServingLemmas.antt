@@ -13,19 +13,25 @@ use Rattle.world.specs.World.{World}
 use Rattle.interleave.specs.declared.between.CopyProgress.{CopyProgress}
 use Rattle.engine.specs.declared.fault.Io.{Io}
 use Rattle.socket.specs.Connections.{Come, Visit, exchanges_of}
-use Rattle.socket.specs.History.{Door, Ends, Takes, TakesNone}
+use Rattle.socket.specs.History.{Does, Door, EndsOperator, Known, Takes, TakesNone, written_whole}
+use Rattle.socket.specs.declared.deed.Deed.TheVariants as deed
+use Rattle.socket.specs.declared.deed.Search.TheVariants.{Waiting, AtOnce}
 use Rattle.control.specs.Copying.{Making, tasks_in, has_read, AllRead, GoesThroughSteps, IsBusy, IsOnlyRead}
 use Rattle.control.specs.Health.{IsPinged, tally_of}
 use Rattle.control.specs.Hearing as hearing
-use Rattle.control.specs.Notices.{AreOfServer, IsServerLine, WritesLines}
+use Rattle.control.specs.Noted.{AreForPeer}
+use Rattle.control.specs.Notices.{WritesLines}
 use Rattle.control.specs.Progress.{IsOver}
+use Rattle.control.specs.Reserve.{DoesMore, Lent, Renews}
 use Rattle.control.specs.Serving.{AllTold, EndsBy, Instant, ObeysMeanwhile}
 use Rattle.control.specs.Serving.{Serves, ServesMeanwhile, ServesPeer, TakesTurn}
-use Rattle.control.specs.Serving.{TakesTurns, TakesTurnsBy, tally_after}
+use Rattle.control.specs.Serving.{TakesTurns, TakesTurnsBy, connected, tally_after}
 use Rattle.control.specs.Tasks.{GoesThroughTasks}
-use Rattle.control.specs.Traces.{HasTraces, TracesEach, WritesTrace}
+use Rattle.control.specs.Traces.{HasLines, HasTraces, Log, TracesEach, WritesTrace, WritesTraces}
+use Rattle.control.specs.Uses.{HasUses, IsUseIf, UsesEach, UsesOnce}
 use Rattle.control.specs.Visits.{Call, OfPeer, OfOperator, Untaken, Audience, CameIf, EndsEach, Happened}
-use Rattle.control.specs.Visits.{IsCallThere, IsToldThere, ObeysOne, ReadsEach, TellsTally}
+use Rattle.control.specs.Visits.{IsCallThere, IsClosed, IsLong, IsToldThere, ObeysOne, ReadsEach, TellsTally}
+use Rattle.control.specs.Visits.{search_with}
 use Rattle.control.specs.Visits.{answered_with, callers_of, connections_of, steps_if, steps_of, steps_with}
 use Rattle.socket.specs.declared.callers.Caller.{Caller}
 use Rattle.socket.specs.declared.callers.Caller.TheVariants.{Peer, Operator}
@@ -36,13 +42,17 @@ use Rattle.control.specs.declared.control_reply.ControlReply.{ControlReply}
 use Rattle.control.specs.declared.control_reply.ControlReply.TheVariants as spoken
 use Rattle.control.proofs.HappensLemmas.{happened_around, happened_none, happened_operator, happened_peer}
 use Rattle.control.proofs.HappensLemmas.{happened_then, happened_untaken}
-use Rattle.control.proofs.NoticeLemmas.{none_written, notices_more, notices_none}
-use Rattle.control.proofs.OrderedLemmas.{Other, ToMake, no_stopping, ok_in, only_read, or_not, ordered_if, through_told}
+use Rattle.control.proofs.NoticeLemmas.{notices_more, notices_none, written_so}
+use Rattle.control.proofs.OrderedLemmas.{Other, ToMake, no_stopping, ok_in, only_read, or_not, ordered_if, short_told}
+use Rattle.control.proofs.OrderedLemmas.{through_told}
 use Rattle.control.proofs.ServeLemmas.{none_come, steps_first, then_come}
 use Rattle.control.proofs.StepLemmas.{no_reads, read_heard, read_then}
 use Rattle.control.proofs.TallyLemmas.{tells_tally}
 use Rattle.control.proofs.TraceLemmas.{traces_around, traces_none, traces_operator, traces_peer, traces_then}
+use Rattle.control.proofs.TraceLemmas.{traces_untaken}
 use Rattle.control.proofs.TaskLemmas.{tasks_none, tasks_read}
+use Rattle.control.proofs.UseLemmas.{renewed_none, uses_around, uses_behind, uses_none, uses_once, uses_operator}
+use Rattle.control.proofs.UseLemmas.{uses_then}
 use Rattle.control.proofs.CallsLemmas.{all_tallied, answered_append, callers_append, connections_append, ends_append}
 use Rattle.control.proofs.CallsLemmas.{goes_on, is_end, may_end, none_ends, none_through, peers_few, read_or}
 use Rattle.control.proofs.CallsLemmas.{steps_append, tally_append, through_append, through_read, told_append}
@@ -50,24 +60,25 @@ use Rattle.control.proofs.CallsLemmas.{steps_append, tally_append, through_appen
 -- ---- from one moment to another
 
 module _ {P O : Type 0} (heeded : O → Account × Reads) (told : O → Option (List ℕ) × Writes)
-    (heard : P → Account × Reads) (written : P → Option (List ℕ) × Writes) (is_new : Caller P O → Type 0) where
+    (heard : P → Account × Reads) (written : P → Option (List ℕ) × Writes) (known : Known P O) where
   IsThere : Call P O → Type 0
   IsThere = IsCallThere heeded told heard written
 
   module _ {S : Type 0} (shown : S → Shown) (made : S → S → Making → Type 0)
       (counted : S → S → ℕ → Type 0) where
-    abbrev From : Bool → Door (Caller P O) → Door (Caller P O) → Progress → Progress → Option (List ℕ) × Writes
-        → Option (List ℕ) × Writes → S → S → Type 0
-    From = Serves heeded told heard written is_new shown made counted
+    abbrev From : Bool → Door (Caller P O) → Door (Caller P O) → Progress → Progress → Log → Log
+        → Lent → Lent → S → S → Type 0
+    From = Serves heeded told heard written known shown made counted
 
     -- nobody
-    pub serves_none : (read : Bool) (door : Door (Caller P O)) (p : Progress) (e : Option (List ℕ) × Writes) (s : S)
-        → From read door door p p e e s s
-    serves_none read door p e s = record {
+    pub serves_none : (read : Bool) (door : Door (Caller P O)) (p : Progress) (e : Log) (l : Lent) (s : S)
+        → From read door door p p e e l l s s
+    serves_none read door p e l s = record {
       calls = [];
       came = none_come door.0;
-      happened = happened_none door.1;
-      begun = All-nil is_new;
+      happened = happened_none (connected read) door.1;
+      begun = All-nil known.is_new;
+      closed = All-nil (IsClosed known);
       there = All-nil (IsCallThere heeded told heard written);
       through = none_through read (shown s);
       reads = λ h w stands. tt;
@@ -77,16 +88,18 @@ module _ {P O : Type 0} (heeded : O → Account × Reads) (told : O → Option (
       taken = omega arith;
       ends = none_ends P O p.stops;
       traces = traces_none P O e;
+      uses = uses_none P O l;
     }
 
     -- nobody, and the store was read
-    pub serves_read : (door : Door (Caller P O)) (p : Progress) (e : Option (List ℕ) × Writes) (s t : S)
-        → IsOnlyRead (shown s) (shown t) → From true door door p p e e s t
-    serves_read door p e s t read = record {
+    pub serves_read : (door : Door (Caller P O)) (p : Progress) (e : Log) (l : Lent) (s t : S)
+        → IsOnlyRead (shown s) (shown t) → From true door door p p e e l l s t
+    serves_read door p e l s t read = record {
       calls = [];
       came = none_come door.0;
-      happened = happened_none door.1;
-      begun = All-nil is_new;
+      happened = happened_none 1 door.1;
+      begun = All-nil known.is_new;
+      closed = All-nil (IsClosed known);
       there = All-nil (IsCallThere heeded told heard written);
       through = tasks_read (shown s) (shown t) read;
       reads = λ h w stands. tt;
@@ -96,22 +109,25 @@ module _ {P O : Type 0} (heeded : O → Account × Reads) (told : O → Option (
       taken = omega arith;
       ends = none_ends P O p.stops;
       traces = traces_none P O e;
+      uses = uses_none P O l;
     }
 
     -- callers, and then others
     pub serves_more : (read : Bool) (door mid end : Door (Caller P O)) (p q r : Progress)
-        (e f g : Option (List ℕ) × Writes) (s t u : S)
-        → From read door mid p q e f s t → From read mid end q r f g t u → From read door end p r e g s u
-    serves_more read door mid end p q r e f g s t u one two =
+        (e f g : Log) (l m n : Lent) (s t u : S)
+        → From read door mid p q e f l m s t → From read mid end q r f g m n t u
+        → From read door end p r e g l n s u
+    serves_more read door mid end p q r e f g l m n s t u one two =
         let xs = one.calls in
         let ys = two.calls in
         record {
           calls = xs ++ ys;
           came = subst (Come door.0 end.0) (sym (callers_append xs ys))
               (then_come door.0 mid.0 end.0 (callers_of xs) (callers_of ys) one.came two.came);
-          happened = happened_then door.1 mid.1 end.1 xs ys one.happened two.happened;
-          begun = subst (All is_new) (sym (callers_append xs ys))
-              (All-append is_new (callers_of xs) (callers_of ys) one.begun two.begun);
+          happened = happened_then (connected read) door.1 mid.1 end.1 xs ys one.happened two.happened;
+          begun = subst (All known.is_new) (sym (callers_append xs ys))
+              (All-append known.is_new (callers_of xs) (callers_of ys) one.begun two.begun);
+          closed = All-append (IsClosed known) xs ys one.closed two.closed;
           there = All-append (IsCallThere heeded told heard written) xs ys one.there two.there;
           through = subst (λ steps. GoesThroughTasks (shown s) (shown u) (tasks_in steps) (read || has_read steps))
               (sym (steps_append xs ys))
@@ -130,23 +146,26 @@ module _ {P O : Type 0} (heeded : O → Account × Reads) (told : O → Option (
           taken = omega (arith, length-append xs ys, one.taken, two.taken);
           ends = ends_append p.stops q.stops r.stops xs ys one.ends two.ends;
           traces = traces_then xs ys e f g one.traces two.traces;
+          uses = uses_then xs ys l m n one.uses two.uses;
         }
 
-    module _ (read : Bool) (door end : Door (Caller P O)) (p q : Progress) (e f : Option (List ℕ) × Writes)
-        (s t : S) where
+    module _ (read : Bool) (door end : Door (Caller P O)) (p q : Progress) (e f : Log)
+        (l m : Lent) (s t : S) where
       -- one caller
-      serves_one : (call : Call P O) → Come door.0 end.0 (callers_of (call ∷ [])) → Happened door.1 end.1 (call ∷ [])
-          → All is_new (callers_of (call ∷ [])) → IsCallThere heeded told heard written call
+      serves_one : (call : Call P O) → Come door.0 end.0 (callers_of (call ∷ []))
+          → Happened (connected read) door.1 end.1 (call ∷ [])
+          → All known.is_new (callers_of (call ∷ [])) → IsClosed known call → IsCallThere heeded told heard written call
           → GoesThroughSteps (shown s) (shown t) (steps_of call)
           → ((shown t).is_honest → (w : World) → (shown s).stands w → AllRead shown made counted w (steps_of call))
           → q.tally ≡ tally_after p.tally (answered_with (call ∷ [])) → AllTold p.tally (call ∷ [])
           → p.left ≡ q.left + connections_of (call ∷ []) → q.taken ≡ p.taken + 1 → EndsBy p.stops q.stops (call ∷ [])
-          → WritesLines (HasTraces (call ∷ [])) e f → From read door end p q e f s t
-      serves_one call comes happened fresh there through reads tally tallies left taken ends traces = record {
+          → WritesTraces (call ∷ []) e f → DoesMore (HasUses (call ∷ [])) l m → From read door end p q e f l m s t
+      serves_one call comes happened fresh closed there through reads tally tallies left taken ends traces uses = record {
         calls = call ∷ [];
         came = comes;
         happened = happened;
         begun = fresh;
+        closed = All-cons (IsClosed known) call [] closed (All-nil (IsClosed known));
         there = All-cons (IsCallThere heeded told heard written) call [] there
             (All-nil (IsCallThere heeded told heard written));
         through = subst (λ steps. GoesThroughTasks (shown s) (shown t) (tasks_in steps) (read || has_read steps))
@@ -160,63 +179,66 @@ module _ {P O : Type 0} (heeded : O → Account × Reads) (told : O → Option (
         taken = omega (arith, taken);
         ends = ends;
         traces = traces;
+        uses = uses;
       }
 
-      one_new : (caller : Caller P O) → is_new caller → All is_new (caller ∷ [])
-      one_new caller fresh = All-cons is_new caller [] fresh (All-nil is_new)
+      one_new : (caller : Caller P O) → known.is_new caller → All known.is_new (caller ∷ [])
+      one_new caller fresh = All-cons known.is_new caller [] fresh (All-nil known.is_new)
 
       -- a peer
-      pub serves_peer : (mid : Door (Caller P O)) (peer : P) → Takes door mid (Peer peer) → is_new (Peer peer) → p.stops ≡ false
-          → ServesPeer heard written peer mid end p q (shown s) (shown t) → WritesLines AreOfServer e f
-          → From read door end p q e f s t
+      pub serves_peer : (mid : Door (Caller P O)) (peer : P) → Takes (search_with (connected read)) door mid (Peer peer)
+          → known.is_new (Peer peer) → p.stops ≡ false
+          → ServesPeer heard written known peer mid end p q (shown s) (shown t) → WritesLines (AreForPeer e.1 f.1) e.0 f.0
+          → Renews l m → From read door end p q e f l m s t
       unfolding serves_one
-      serves_peer mid peer takes fresh going next written_lines =
+      serves_peer mid peer takes fresh going next written_lines renews =
           let first = next.answers.answers.first in
-          let visit : Visit P = record { before = peer; after = next.gone; first = first } in
+          let visit : Visit P = record { before = peer; after = next.gone; gone = next.ended.0; first = first } in
           serves_one (OfPeer visit next.answered)
-          (subst (λ w. Come door.0 w (Peer peer ∷ [])) (sym next.ended.waits) takes.comes)
-          (happened_peer door mid end visit next.answered takes next.ended) (one_new (Peer peer) fresh)
+          (subst (λ w. Come door.0 w (Peer peer ∷ [])) (sym next.ended.2.waits) takes.comes)
+          (happened_peer (connected read) door mid end visit next.answered takes next.ended.2) (one_new (Peer peer) fresh) next.ended.1
           (next.answers.answers.there, next.answers.counts, next.answers.cause)
           (steps_first (shown s) (shown t) first next.answers.answers.through)
           (λ h w stands. no_reads shown made counted w (exchanges_of first))
           next.tally tt next.left next.taken
           (goes_on p.stops q.stops going next.stops (OfPeer visit next.answered) (λ never. never))
-          (traces_peer {P = P} {O = O} (OfPeer visit next.answered) e f (λ lines of. of) written_lines)
+          (traces_peer O visit next.answered e f written_lines) renews
 
       -- a connection that could not be taken
-      pub serves_untaken : TakesNone door end → p.stops ≡ false → q.tally ≡ p.tally → p.left ≡ q.left + 1
-          → q.taken ≡ p.taken + 1 → q.stops ≡ p.stops → s ≡ t → e ≡ f → From read door end p q e f s t
+      pub serves_untaken : TakesNone (search_with (connected read)) door end → p.stops ≡ false → q.tally ≡ p.tally → p.left ≡ q.left + 1
+          → q.taken ≡ p.taken + 1 → q.stops ≡ p.stops → s ≡ t → e ≡ f → l ≡ m
+          → From read door end p q e f l m s t
       unfolding serves_one
-      serves_untaken takes going tally left taken stops same kept =
-          serves_one Untaken takes.comes (happened_untaken door end takes) (All-nil is_new) tt
+      serves_untaken takes going tally left taken stops same kept still =
+          serves_one Untaken takes.comes (happened_untaken (connected read) door end takes) (All-nil known.is_new) tt tt
           (subst (λ x. GoesThroughSteps (shown s) (shown x) []) same (tasks_none (shown s)))
           (λ h w stands. tt) tally tt left taken
           (goes_on p.stops q.stops going stops Untaken (λ never. never))
-          (traces_peer {P = P} {O = O} Untaken e f (λ lines of. of)
-          (subst (WritesLines AreOfServer e) kept (none_written AreOfServer e (All-nil IsServerLine))))
+          (traces_untaken P O e f kept) (subst (Renews l) still (renewed_none l))
 
       -- an operator, who ordered no copy
-      pub serves_operator : (mid : Door (Caller P O)) (idle : Type 0) (meanwhile : Making → Type 0)
+      pub serves_operator : (mid : Door (Caller P O)) (idle : Option hearing.Heard → Type 0)
+          (meanwhile : Making → Type 0)
           (tally_now : Tally) (operator gone : O) (stops : Bool)
-          → Takes door mid (Operator operator) → is_new (Operator operator) → p.stops ≡ false
-          → tally_now ≡ p.tally
+          → Takes (search_with (connected read)) door mid (Operator operator) → known.is_new (Operator operator)
+          → p.stops ≡ false → tally_now ≡ p.tally
           → (next : ObeysOne heeded told (made s t)
           (IsPinged tally_now (shown s).failures (shown t).failures (counted s t)) idle meanwhile operator gone stops
           (shown s) (shown t))
-          → GoesThroughSteps (shown s) (shown t) (steps_if next.audience.heard) → Ends mid end (Operator gone)
-          → q.tally ≡ p.tally → q.left ≡ p.left → q.taken ≡ p.taken + 1 → q.stops ≡ (p.stops || stops)
-          → WritesTrace next.audience.heard next.audience.told e f
-          → From read door end p q e f s t
+          → GoesThroughSteps (shown s) (shown t) (steps_if next.audience.heard) → ¬ IsLong next.audience.heard
+          → EndsOperator mid end gone → q.tally ≡ p.tally → q.left ≡ p.left → q.taken ≡ p.taken + 1 → q.stops ≡ (p.stops || stops)
+          → WritesTrace next.audience.heard next.audience.told e.0 f.0 → f.1 ≡ e.1
+          → UsesOnce next.audience.heard l m → From read door end p q e f l m s t
       unfolding serves_one
-      serves_operator mid idle meanwhile tally_now operator gone stops takes fresh going now next through ends tally left
-          taken is trace =
+      serves_operator mid idle meanwhile tally_now operator gone stops takes fresh going now next through short ends tally
+          left taken is trace faults uses =
           let x = next.audience in
-          let takes_x = subst (λ o. Takes door mid (Operator o)) (sym next.begins) takes in
-          let ends_x = subst (λ o. Ends mid end (Operator o)) (sym next.leaves) ends in
+          let takes_x = subst (λ o. Takes (search_with (connected read)) door mid (Operator o)) (sym next.begins) takes in
+          let ends_x = subst (λ o. EndsOperator mid end o) (sym next.leaves) ends in
           serves_one (OfOperator x)
           (subst (λ w. Come door.0 w (Operator x.before ∷ [])) (sym ends_x.waits) takes_x.comes)
-          (happened_operator door mid end x takes_x ends_x)
-          (one_new (Operator x.before) (subst (λ o. is_new (Operator o)) (sym next.begins) fresh))
+          (happened_operator (connected read) door mid end x takes_x short ends_x)
+          (one_new (Operator x.before) (subst (λ o. known.is_new (Operator o)) (sym next.begins) fresh)) tt
           next.there through
           (λ h w stands. read_heard shown made counted tally_now s t h w stands x.heard next.came next.lists)
           tally (
@@ -228,7 +250,7 @@ module _ {P O : Type 0} (heeded : O → Account × Reads) (told : O → Option (
           (omega (arith, left)) taken
           (may_end p.stops stops q.stops (OfOperator x) going is next.stopped.0
           (λ on stop. false≢true (sym on ∙ next.stopped.1 stop)))
-          (traces_operator P x e f trace)
+          (traces_operator P x e f trace faults) (uses_operator P x l m uses)
 
     no_stop_told : (before after : O) (making : Making) (said : Result ControlReply Io)
         → IsToldThere heeded told before after (Some (hearing.Made making)) said
@@ -238,20 +260,21 @@ module _ {P O : Type 0} (heeded : O → Account × Reads) (told : O → Option (
     no_stop_told before after making (Err e) there is = cc
 
     -- an operator who had something made, with the callers who were served meanwhile
-    pub serves_made : (door mid last end : Door (Caller P O)) (p q r o : Progress) (e f g : Option (List ℕ) × Writes)
-        (s m t : S)
+    pub serves_made : (door mid watching last end : Door (Caller P O)) (p q r o : Progress) (e f g : Log)
+        (k l n : Lent) (s m t : S)
         (before after : O) (making : Making) (said : Result ControlReply Io)
-        → Takes door mid (Operator before) → is_new (Operator before) → p.stops ≡ false
-        → IsToldThere heeded told before after (Some (hearing.Made making)) said
+        → Takes Waiting door mid (Operator before) → known.is_new (Operator before) → p.stops ≡ false
+        → Does mid watching [] deed.Watched → IsToldThere heeded told before after (Some (hearing.Made making)) said
         → (said ≡ Ok (spoken.Outcome Stopping) → ⊥)
-        → made s t making → From true mid last q r e f s m → IsOnlyRead (shown m) (shown t) → ¬ IsBusy making
-        → WritesTrace (Some (hearing.Made making)) said f g
-        → Ends last end (Operator after)
+        → made s t making → From true watching last q r e f k l s m → IsOnlyRead (shown m) (shown t) → ¬ IsBusy making
+        → WritesTrace (Some (hearing.Made making)) said f.0 g.0 → g.1 ≡ f.1 → Renews l n
+        → EndsOperator last end after
         → q.tally ≡ p.tally → q.left ≡ p.left → q.taken ≡ p.taken + 1 → q.stops ≡ p.stops
         → o.tally ≡ r.tally → o.left ≡ r.left → o.taken ≡ r.taken → o.stops ≡ r.stops
-        → From false door end p o e g s t
-    serves_made door mid last end p q r o e f g s m t before after making said takes fresh going there never came next
-        read begun trace closes tally left_is taken stops tally_o left_o taken_o stops_o =
+        → From false door end p o e g k n s t
+    serves_made door mid watching last end p q r o e f g k l n s m t before after making said takes fresh going watched
+        there never came next read begun trace faults renews closes tally left_is taken stops tally_o left_o taken_o
+        stops_o =
         let x : Audience O =
         record { before = before; after = after; heard = Some (hearing.Made making); told = said } in
         let call : Call P O = OfOperator x in
@@ -259,9 +282,11 @@ module _ {P O : Type 0} (heeded : O → Account × Reads) (told : O → Option (
         record {
           calls = call ∷ ys;
           came = then_come door.0 mid.0 end.0 (Operator before ∷ []) (callers_of ys) takes.comes
-              (subst (λ w. Come mid.0 w (callers_of ys)) (sym closes.waits) next.came);
-          happened = happened_around door mid last end x ys takes next.happened begun closes;
-          begun = All-cons is_new (Operator before) (callers_of ys) fresh next.begun;
+              (subst (λ w. Come mid.0 w (callers_of ys)) (sym closes.waits)
+              (subst (λ w. Come w last.0 (callers_of ys)) watched.waits next.came));
+          happened = happened_around door mid watching last end x ys takes watched next.happened begun closes;
+          begun = All-cons known.is_new (Operator before) (callers_of ys) fresh next.begun;
+          closed = All-cons (IsClosed known) call ys tt next.closed;
           there = All-cons (IsCallThere heeded told heard written) call ys there next.there;
           through = through_read (shown s) (shown m) (shown t) (tasks_in (steps_with ys)) next.through read;
           reads = λ h w stands. (
@@ -275,16 +300,17 @@ module _ {P O : Type 0} (heeded : O → Account × Reads) (told : O → Option (
           ends = subst (λ b. EndsBy p.stops b (call ∷ ys)) (sym stops_o)
               (ends_append p.stops q.stops r.stops (call ∷ []) ys
               (goes_on p.stops q.stops going stops call never) next.ends);
-          traces = traces_around x ys e f g next.traces trace;
+          traces = traces_around x ys e f g begun next.traces trace faults;
+          uses = uses_around x making ys k l n refl next.uses renews;
         }
 
     -- ---- from the beginning to the end
 
     module _ (since : List ℕ) (connections : ℕ) (door end : Door (Caller P O)) (p q : Progress)
-        (e f : Option (List ℕ) × Writes) (s t : S)
-        (all : From false door end p q e f s t) (tally : p.tally ≡ tally_of since []) (left : p.left ≡ connections)
+        (e f : Log) (l m : Lent) (s t : S)
+        (all : From false door end p q e f l m s t) (tally : p.tally ≡ tally_of since []) (left : p.left ≡ connections)
         (taken : p.taken ≡ 0) (stops : p.stops ≡ false) where
-      pub serves_each : ReadsEach heeded told heard written shown made counted is_new door end s t since
+      pub serves_each : ReadsEach heeded told heard written shown made counted known door end s t since
           connections
       serves_each = record {
         each = record {
@@ -293,6 +319,7 @@ module _ {P O : Type 0} (heeded : O → Account × Reads) (told : O → Option (
           came = all.came;
           happened = all.happened;
           begun = all.begun;
+          closed = all.closed;
           there = all.there;
           through = all.through;
         };
@@ -302,7 +329,7 @@ module _ {P O : Type 0} (heeded : O → Account × Reads) (told : O → Option (
 
       -- no caller was taken any more
       pub ends_each : IsOver q.stops q.left q.taken
-          → EndsEach heeded told heard written shown made counted is_new door end s t since connections
+          → EndsEach heeded told heard written shown made counted known door end s t since connections
       unfolding serves_each
       ends_each over = record {
         reads = serves_each;
@@ -311,29 +338,41 @@ module _ {P O : Type 0} (heeded : O → Account × Reads) (told : O → Option (
             (omega (arith, all.taken, taken)) over;
       }
 
-      -- a line was written for each order
-      pub traces_each : IsOver q.stops q.left q.taken
-          → TracesEach heeded told heard written shown made counted is_new door end s t since connections e f
+      -- their lines were written, from the first fault on
+      pub traces_each : IsOver q.stops q.left q.taken → e.1.told.items ≡ []
+          → TracesEach heeded told heard written shown made counted known door end s t since connections e.0 f.0
       unfolding ends_each serves_each
-      traces_each over = record { ends = ends_each over; traces = all.traces }
+      traces_each over none = record {
+        ends = ends_each over;
+        traces = written_so (HasLines e.1 f.1 all.calls) (HasTraces all.calls) e.0 f.0
+            (λ lines has. (e.1, f.1, none, has)) all.traces;
+      }
+
+      -- each order used the reserve as it may, after room was taken again
+      pub uses_each : (k : Lent) → Renews k l → IsOver q.stops q.left q.taken → e.1.told.items ≡ []
+          → UsesEach heeded told heard written shown made counted known door end s t since connections e.0 f.0 k.0 m.0
+      unfolding traces_each ends_each serves_each
+      uses_each k renews over none =
+          let uses = uses_behind all.calls k l m renews all.uses in
+          record { traces = traces_each over none; more = uses.1; are = uses.2; uses = uses.3 }
 
     -- ---- while a copy is made
 
-    one_turn : (a b : Instant P O S) → TakesTurn heeded told heard written is_new shown made counted a b
-        → ServesMeanwhile heeded told heard written is_new shown made counted a b
+    one_turn : (a b : Instant P O S) → TakesTurn heeded told heard written known shown made counted a b
+        → ServesMeanwhile heeded told heard written known shown made counted a b
     unfolding serves_read
-    one_turn a b (inl (read, same)) = subst (ServesMeanwhile heeded told heard written is_new shown made counted a)
+    one_turn a b (inl (read, same)) = subst (ServesMeanwhile heeded told heard written known shown made counted a)
         (sym same) (record {
-          serves = serves_read a.door a.progress a.errors a.store b.store
+          serves = serves_read a.door a.progress a.log a.room a.store b.store
               (only_read (shown a.store) (shown b.store) read);
-          notes = notices_none a.errors.0;
+          notes = notices_none a.log.0.0;
           same = refl;
         })
     one_turn a b (inr serves) = serves
 
     turns_all : (a b : Instant P O S) (by : List (Instant P O S))
-        → TakesTurnsBy heeded told heard written is_new shown made counted a by b
-        → ServesMeanwhile heeded told heard written is_new shown made counted a b
+        → TakesTurnsBy heeded told heard written known shown made counted a by b
+        → ServesMeanwhile heeded told heard written known shown made counted a b
     unfolding one_turn serves_more
     turns_all a b [] turn = one_turn a b turn
     turns_all a b (mid ∷ more) turns =
@@ -341,61 +380,69 @@ module _ {P O : Type 0} (heeded : O → Account × Reads) (told : O → Option (
         let two = turns_all mid b more turns.1 in
         record {
           serves = serves_more true a.door mid.door b.door a.progress mid.progress b.progress
-              a.errors mid.errors b.errors a.store mid.store b.store one.serves two.serves;
-          notes = notices_more a.errors.0 mid.errors.0 b.errors.0 one.notes two.notes;
+              a.log mid.log b.log a.room mid.room b.room a.store mid.store b.store one.serves two.serves;
+          notes = notices_more a.log.0.0 mid.log.0.0 b.log.0.0 one.notes two.notes;
           same = two.same ∙ one.same;
         }
 
     -- all turns together
-    pub all_turns : (a b : Instant P O S) → TakesTurns heeded told heard written is_new shown made counted a b
-        → ServesMeanwhile heeded told heard written is_new shown made counted a b
+    pub all_turns : (a b : Instant P O S) → TakesTurns heeded told heard written known shown made counted a b
+        → ServesMeanwhile heeded told heard written known shown made counted a b
     unfolding turns_all
     all_turns a b turns = turns_all a b turns.0 turns.1
 
     -- an operator, for whom no copy was made
-    pub serves_told : (door mid end : Door (Caller P O)) (p q : Progress) (e f : Option (List ℕ) × Writes) (s t : S)
+    pub serves_told : (door mid end : Door (Caller P O)) (p q : Progress) (e f : Log) (l m : Lent) (s t : S)
         (operator : O) (far : Option CopyProgress)
-        → Takes door mid (Operator operator) → is_new (Operator operator) → p.stops ≡ false
-        → ObeysMeanwhile heeded told shown made counted operator far mid end p q e f s t
-        → From true door end p q e f s t
+        → Takes AtOnce door mid (Operator operator) → known.is_new (Operator operator) → p.stops ≡ false
+        → ObeysMeanwhile heeded told shown made counted operator far mid end p q e f l m s t
+        → From true door end p q e f l m s t
     unfolding serves_operator
-    serves_told door mid end p q e f s t operator far takes fresh going next =
-        serves_operator true door end p q e f s t mid (Unit {0})
+    serves_told door mid end p q e f l m s t operator far takes fresh going next =
+        serves_operator true door end p q e f l m s t mid (λ _. Unit {0})
         (λ making. IsOnlyRead (shown s) (shown t) × IsBusy making)
         p.tally operator next.gone
         next.stops takes fresh going refl next.obeys
-        (through_told (Unit {0}) (shown s) (shown t) next.obeys.audience.heard
+        (through_told (λ _. Unit {0}) (shown s) (shown t) next.obeys.audience.heard
         (ordered_if _ _ (shown s) (shown t) next.obeys.audience.heard next.obeys.through))
-        next.ended next.tally next.left next.taken next.ends next.trace
+        (short_told (λ _. Unit {0}) (shown s) (shown t) next.obeys.audience.heard
+        (ordered_if _ _ (shown s) (shown t) next.obeys.audience.heard next.obeys.through))
+        next.ended next.tally next.left next.taken next.ends next.trace next.faults
+        next.uses
 
-    module _ (door mid last end : Door (Caller P O)) (p a b q : Progress) (e f g : Option (List ℕ) × Writes) (s t : S)
-        (idle : Type 0) (meanwhile : Making → Type 0)
-        (still : idle → (last ≡ mid) × (b ≡ a) × (f ≡ e))
+    module _ (door mid last end : Door (Caller P O)) (p a b q : Progress) (e f g : Log)
+        (k l n : Lent) (s t : S)
+        (idle : Option hearing.Heard → Type 0) (meanwhile : Making → Type 0)
+        (still : (heard : Option hearing.Heard) → idle heard
+        → (last ≡ mid) × (b ≡ a) × (f ≡ e) × DoesMore (IsUseIf heard) k l)
         (turns : (making : Making) → meanwhile making
-        → (m : S) × From true mid last a b e f s m × IsOnlyRead (shown m) (shown t) × ¬ IsBusy making)
-        (operator gone : O) (stops : Bool) (takes : Takes door mid (Operator operator))
-        (fresh : is_new (Operator operator)) (going : p.stops ≡ false)
+        → (watching : Door (Caller P O)) × (m : S) × Does mid watching [] deed.Watched
+        × From true watching last a b e f k l s m × IsOnlyRead (shown m) (shown t) × ¬ IsBusy making)
+        (operator gone : O) (stops : Bool) (takes : Takes Waiting door mid (Operator operator))
+        (fresh : known.is_new (Operator operator)) (going : p.stops ≡ false)
         (next : ObeysOne heeded told (made s t)
         (IsPinged a.tally (shown s).failures (shown t).failures (counted s t)) idle meanwhile operator gone stops
-        (shown s) (shown t)) (trace : WritesTrace next.audience.heard next.audience.told f g)
-        (ends : Ends last end (Operator gone))
+        (shown s) (shown t)) (trace : WritesTrace next.audience.heard next.audience.told f.0 g.0)
+        (faults : g.1 ≡ f.1) (renews : Renews l n)
+        (ends : EndsOperator last end gone)
         (tally : a.tally ≡ p.tally) (left : a.left ≡ p.left) (taken : a.taken ≡ p.taken + 1) (same : a.stops ≡ p.stops)
         (tally_q : q.tally ≡ b.tally) (left_q : q.left ≡ b.left) (taken_q : q.taken ≡ b.taken)
         (stops_q : q.stops ≡ (b.stops || stops)) where
-      other_served : idle → GoesThroughSteps (shown s) (shown t) (steps_if next.audience.heard)
-          → From false door end p q e g s t
+      other_served : idle next.audience.heard → GoesThroughSteps (shown s) (shown t) (steps_if next.audience.heard)
+          → ¬ IsLong next.audience.heard → From false door end p q e g k n s t
       unfolding serves_operator
-      other_served rests through =
-          let both = still rests in
-          serves_operator false door end p q e g s t mid idle meanwhile a.tally operator gone stops takes fresh going tally
-          next through (subst (λ d. Ends d end (Operator gone)) both.0 ends)
+      other_served rests through short =
+          let both = still next.audience.heard rests in
+          serves_operator false door end p q e g k n s t mid idle meanwhile a.tally operator gone stops takes fresh going
+          tally next through short (subst (λ d. EndsOperator d end gone) both.0 ends)
           (tally_q ∙ ap (λ x. x.tally) both.1 ∙ tally) (left_q ∙ ap (λ x. x.left) both.1 ∙ left)
           (taken_q ∙ ap (λ x. x.taken) both.1 ∙ taken)
           (stops_q ∙ ap (λ x. x.stops || stops) both.1 ∙ ap (λ x. x || stops) same)
-          (subst (λ x. WritesTrace next.audience.heard next.audience.told x g) both.2 trace)
+          (subst (λ x. WritesTrace next.audience.heard next.audience.told x.0 g.0) both.2 trace)
+          (subst (λ x. g.1 ≡ x.1) both.2 faults) (uses_once next.audience.heard k l n both.3 renews)
 
       made_served : (making : Making)
-          → next.audience.heard ≡ Some (hearing.Made making) → meanwhile making → From false door end p q e g s t
+          → next.audience.heard ≡ Some (hearing.Made making) → meanwhile making → From false door end p q e g k n s t
       unfolding serves_made
       made_served making is done =
           let x = next.audience in
@@ -403,19 +450,19 @@ module _ {P O : Type 0} (heeded : O → Account × Reads) (told : O → Option (
           let there : IsToldThere heeded told x.before x.after (Some (hearing.Made making)) x.told =
           subst (λ h. IsToldThere heeded told x.before x.after h x.told) is next.there in
           let never = no_stop_told x.before x.after making x.told there in
-          serves_made door mid last end p a b q e f g s went.0 t x.before x.after making x.told
-          (subst (λ o. Takes door mid (Operator o)) (sym next.begins) takes)
-          (subst (λ o. is_new (Operator o)) (sym next.begins) fresh) going there never
+          serves_made door mid went.0 last end p a b q e f g k l n s went.1 t x.before x.after making x.told
+          (subst (λ o. Takes Waiting door mid (Operator o)) (sym next.begins) takes)
+          (subst (λ o. known.is_new (Operator o)) (sym next.begins) fresh) going went.2 there never
           (subst (λ h. CameIf (made s t)
           (IsPinged a.tally (shown s).failures (shown t).failures (counted s t)) h) is next.came)
-          went.1 went.2 went.3 (subst (λ h. WritesTrace h x.told f g) is trace)
-          (subst (λ o. Ends last end (Operator o)) (sym next.leaves) ends) tally left taken same tally_q left_q taken_q
+          went.3 went.4 went.5 (subst (λ h. WritesTrace h x.told f.0 g.0) is trace) faults renews
+          (subst (λ o. EndsOperator last end o) (sym next.leaves) ends) tally left taken same tally_q left_q taken_q
           (stops_q ∙ or_not b.stops stops (λ on. never (next.stopped.0 on)))
 
       -- an operator, and those who were served while a copy was made for it, if one was
-      pub obey_serves : From false door end p q e g s t
+      pub obey_serves : From false door end p q e g k n s t
       unfolding other_served made_served
       obey_serves = elim (ordered_if idle meanwhile (shown s) (shown t) next.audience.heard next.through) [
-        | Other rests through ↦ other_served rests through
+        | Other rests through short ↦ other_served rests through short
         | ToMake making is done ↦ made_served making is done
       ]

@@ -9,10 +9,12 @@ use Rattle.world.specs.Store.{Shown}
 use Rattle.world.specs.World.{World, place_cmp}
 use Rattle.interleave.specs.Interleave.{IsSince, Notes}
 use Rattle.interleave.specs.Noted.{IsNoted, with_said}
-use Rattle.socket.specs.History.{Door}
+use Rattle.socket.specs.History.{Door, Known}
 use Rattle.control.specs.Copying.{Making, Step, OfTask, Made, Counted, Listed, LookedUp, AllRead}
+use Rattle.control.specs.Reserve.{Lent}
 use Rattle.control.specs.Serving.{Serves}
 use Rattle.control.specs.Tasks.{Task, GoesThroughTasks, StandsIf, world_at}
+use Rattle.control.specs.Traces.{Log}
 use Rattle.control.specs.Visits.{steps_with}
 use Rattle.socket.specs.declared.callers.Caller.{Caller}
 use Rattle.control.specs.declared.progress.Progress.{Progress}
@@ -92,20 +94,22 @@ module _ {S T : Type 0} (shown : S → Shown) (made : S → S → Making → Typ
   read_unnoted w (LookedUp f (Err fault) ∷ steps) all = read_unnoted w steps all
 
   module _ {P O : Type 0} (heeded : O → Account × Reads) (told : O → Option (List ℕ) × Writes)
-      (heard : P → Account × Reads) (written : P → Option (List ℕ) × Writes) (is_new : Caller P O → Type 0)
-      (door end : Door (Caller P O)) (p q : Progress) (errors errors_new : Option (List ℕ) × Writes) (s t : T)
+      (heard : P → Account × Reads) (written : P → Option (List ℕ) × Writes) (known : Known P O)
+      (door end : Door (Caller P O)) (p q : Progress) (log log_new : Log)
+      (room room_new : Lent) (s t : T)
       (all : (w : World) → (shown (inside s)).stands w → said s w)
-      (next : Serves heeded told heard written is_new Shown_too Made_too Counted_too true door end p q errors errors_new
-      s t) where
+      (next : Serves heeded told heard written known Shown_too Made_too Counted_too true door end p q log log_new
+      room room_new s t) where
     -- the callers were served so
-    pub serves_unnoted : Serves heeded told heard written is_new shown made counted true door end p q errors errors_new
-        (inside s) (inside t)
+    pub serves_unnoted : Serves heeded told heard written known shown made counted true door end p q log log_new
+        room room_new (inside s) (inside t)
     unfolding goes_unnoted read_unnoted
     serves_unnoted = record {
       calls = next.calls;
       came = next.came;
       happened = next.happened;
       begun = next.begun;
+      closed = next.closed;
       there = next.there;
       through = goes_unnoted (shown (inside s)) (shown (inside t)) (said s) (said t) _ _ all next.through;
       reads = λ h w stands. read_unnoted w (steps_with next.calls) (next.reads h w (stands, all w stands));
@@ -115,6 +119,7 @@ module _ {S T : Type 0} (shown : S → Shown) (made : S → S → Making → Typ
       taken = next.taken;
       ends = next.ends;
       traces = next.traces;
+      uses = next.uses;
     }
 
 -- what is said at first of each world that a store stands for

@@ -4,7 +4,6 @@ use Rattle.std.specs.Prelude.{MatchOption, Option, Some, None, Result, Ok, Err}
 use Rattle.std.specs.Io.KnownBytes.{Appends}
 use Rattle.histories.specs.Account.{Account, Gives}
 use Rattle.histories.specs.Calls.{Reads}
-use Rattle.engine.specs.Causes.{IsUnreadable, most_reads}
 use Rattle.engine.specs.Written.{WritesBeginning}
 use Rattle.world.specs.declared.registry.RegistryReply.TheVariants as registered
 use Rattle.orders.specs.Order.{HasNoLine, IsLineOf, Ordered, ListOf, Ping, Stop, Copy, Catalog, RevokeByFingerprint}
@@ -16,6 +15,7 @@ use Rattle.orders.specs.declared.outcome.Outcome.TheVariants as outcome
 use Rattle.orders.specs.declared.write.WriteError.{WriteError}
 use Rattle.orders.specs.declared.write.WriteError.TheVariants as unwritten
 use Rattle.control.specs.Health.{IsHealthLine}
+use Rattle.control.specs.Line.{IsUnheard, ReadsWell}
 use Rattle.control.specs.Listing.{AreLines}
 use Rattle.control.specs.declared.client.OrderReply.{OrderReply}
 use Rattle.control.specs.declared.client.OrderReply.TheVariants as reply
@@ -138,22 +138,24 @@ module _ (written written_new : Option (List ℕ)) where
   IsSent failed failed_new o (Err ReplyMemory) = ⊥
 
 -- The line of the order was sent, and this reply came. Or nothing was sent or read, because no bytes are such a line or
--- memory ran out. Or a beginning of it was sent, a write failed, and nothing was read. Or it was sent, and a read failed
--- or all that there are began; or what came is no reply, whatever may follow; or memory ran out for a reply that has no
--- bound.
-abbrev pub OrderGets : Account → Account → Reads → Reads → Option (List ℕ) → Option (List ℕ) → ℕ → ℕ → Ordered
+-- memory ran out. Or a beginning of it was sent, a write failed, and nothing was read. Or it was sent, and a read broke,
+-- or was late and that ends the reading, or all that there are began or failed; or what came is no reply, whatever may
+-- follow; or memory ran out for a reply that has no bound. No other read broke, or was late if that ends the reading.
+abbrev pub OrderGets : Bool → Account → Account → Reads → Reads → Option (List ℕ) → Option (List ℕ) → ℕ → ℕ → Ordered
     → Result OrderReply SendError → Type 0
-OrderGets came came_new reads reads_new written written_new failed failed_new o (Ok told) =
+OrderGets reads_on came came_new reads reads_new written written_new failed failed_new o (Ok told) =
     IsAsked written written_new o × ((got : List ℕ) × Gives came came_new got × IsReplyTo o told got)
-OrderGets came came_new reads reads_new written written_new failed failed_new o (Err Words) =
-    HasNoLine o × (written_new ≡ written) × (came_new ≡ came)
-OrderGets came came_new reads reads_new written written_new failed failed_new o (Err Memory) =
-    (written_new ≡ written) × (came_new ≡ came)
-OrderGets came came_new reads reads_new written written_new failed failed_new o (Err Io) =
-    (IsCut written written_new failed failed_new o × (came_new ≡ came))
-    ⊎ (IsAsked written written_new o × IsUnreadable most_reads reads reads_new)
-OrderGets came came_new reads reads_new written written_new failed failed_new o (Err NoReply) =
+    × ReadsWell reads_on reads reads_new
+OrderGets reads_on came came_new reads reads_new written written_new failed failed_new o (Err Words) =
+    HasNoLine o × (written_new ≡ written) × (came_new ≡ came) × (reads_new ≡ reads)
+OrderGets reads_on came came_new reads reads_new written written_new failed failed_new o (Err Memory) =
+    (written_new ≡ written) × (came_new ≡ came) × (reads_new ≡ reads)
+OrderGets reads_on came came_new reads reads_new written written_new failed failed_new o (Err Io) =
+    (IsCut written written_new failed failed_new o × (came_new ≡ came) × (reads_new ≡ reads))
+    ⊎ (IsAsked written written_new o × IsUnheard reads_on reads reads_new)
+OrderGets reads_on came came_new reads reads_new written written_new failed failed_new o (Err NoReply) =
     IsAsked written written_new o
     × ((got : List ℕ) × Gives came came_new got × IsNoReply o came_new.is_over got)
-OrderGets came came_new reads reads_new written written_new failed failed_new o (Err ReplyMemory) =
-    IsAsked written written_new o × HasNoBound o
+    × ReadsWell reads_on reads reads_new
+OrderGets reads_on came came_new reads reads_new written written_new failed failed_new o (Err ReplyMemory) =
+    IsAsked written written_new o × HasNoBound o × ReadsWell reads_on reads reads_new

@@ -7,7 +7,7 @@ use Rattle.modver.specs.Time.{IsTime}
 use Rattle.world.specs.Store.{GrewOrFull}
 use Rattle.world.specs.declared.registry.StoreFault.{StoreFault}
 use Rattle.world.specs.declared.registry.StoreFault.TheVariants.{Device}
-use Rattle.engine.specs.declared.fault.Io.{Io}
+use Rattle.socket.specs.Connections as socket
 use Rattle.interleave.specs.declared.between.CopyProgress.{CopyProgress}
 use Rattle.control.specs.Traffic as traffic
 use Rattle.control.specs.declared.health.Metrics.{Metrics}
@@ -17,7 +17,7 @@ use Rattle.control.specs.declared.traffic.Traffic.{Traffic}
 
 -- what became of one connection: the status that was written, none where the peer sent nothing, or that it failed
 abbrev pub Answered : Type 0
-Answered = Result (Option ℕ) Io
+Answered = socket.Answered
 
 -- whether its status begins with this digit
 abbrev pub is_of_class : ℕ → Answered → Bool

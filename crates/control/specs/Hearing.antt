@@ -18,15 +18,17 @@ use Rattle.orders.specs.Order as orders
 use Rattle.orders.specs.Order.{IsLineOf, IsNoOrder, commanded, ordered}
 use Rattle.orders.specs.declared.order.Order.{Order}
 use Rattle.orders.specs.declared.order.Order.TheVariants as order
-use Rattle.control.specs.Naming.{Finds, Naming, named_notice, named_result, named_steps}
+use Rattle.control.specs.Naming.{Finds, Naming, UsesRoomNamed, named_notice, named_result, named_steps}
 use Rattle.control.specs.Noted.{IsNoted, Noted}
 use Rattle.control.specs.Notices as notice
 use Rattle.control.specs.Outcome.{outcome_of, outcome_of_catalog, outcome_of_copy}
+use Rattle.control.specs.Reserve.{UsesRoom}
 use Rattle.control.specs.ControlReply.{bytes_told}
 use Rattle.control.specs.Tasks.{Ordered}
 use Rattle.control.specs.declared.copies.CatalogRefusal.{CatalogRefusal}
 use Rattle.control.specs.declared.copies.CatalogRefusal.TheVariants as catalog
 use Rattle.control.specs.declared.health.Health.{Health}
+use Rattle.control.specs.declared.reserve.RoomDeed.{RoomDeed}
 use Rattle.orders.specs.declared.listing.Listing.{Listing}
 use Rattle.orders.specs.declared.command.RegistryCommand.{RegistryCommand}
 use Rattle.orders.specs.declared.outcome.Outcome.TheVariants.{Failed, Stopping, Bad}
@@ -170,11 +172,22 @@ ListsBy old new (Listed listing told) = ReadsList old new listing told
 ListsBy old new (Named f naming) = Finds old new f naming
 ListsBy old new other = Unit {0}
 
--- The store went through the steps of what was ordered, and the copies were idle; where something was to be made, this
--- happened meanwhile.
-abbrev pub GoesAs : (idle : Type 0) (meanwhile : Making → Type 0) → Shown → Shown → Heard → Type 0
+-- what was ordered did this to the reserve: a registry command what `UsesRoom` says, and another order nothing
+abbrev pub UsesRoomFor : Shown → Shown → List RoomDeed → List RoomDeed → Heard → Type 0
+UsesRoomFor old new deeds deeds_new (Carried command told) = UsesRoom old new deeds deeds_new told
+UsesRoomFor old new deeds deeds_new (Named f naming) = UsesRoomNamed old new deeds deeds_new naming
+UsesRoomFor old new deeds deeds_new other = deeds_new ≡ deeds
+
+-- so it is of what was heard, if something was
+abbrev pub UsesRoomIf : Shown → Shown → List RoomDeed → List RoomDeed → Option Heard → Type 0
+UsesRoomIf old new deeds deeds_new None = deeds_new ≡ deeds
+UsesRoomIf old new deeds deeds_new (Some heard) = UsesRoomFor old new deeds deeds_new heard
+
+-- The store went through the steps of what was ordered, and the copies were idle as they are for it; where something
+-- was to be made, this happened meanwhile.
+abbrev pub GoesAs : (idle : Option Heard → Type 0) (meanwhile : Making → Type 0) → Shown → Shown → Heard → Type 0
 GoesAs idle meanwhile old new (Made making) = meanwhile making
-GoesAs idle meanwhile old new heard = idle × GoesThroughSteps old new (steps_heard heard)
+GoesAs idle meanwhile old new heard = idle (Some heard) × GoesThroughSteps old new (steps_heard heard)
 
 module _ (made : Making → Type 0) (pinged : Result Health StoreFault → Type 0) where
   -- where an operator ordered something to be made or asked for the health, this came of it
@@ -188,7 +201,7 @@ module _ (made : Making → Type 0) (pinged : Result Health StoreFault → Type 
   CameOf NoOrder = Unit {0}
   CameOf NoMemory = Unit {0}
 
-  module _ (idle : Type 0) (meanwhile : Making → Type 0) where
+  module _ (idle : Option Heard → Type 0) (meanwhile : Making → Type 0) where
     -- What was ordered was done, these lines of a catalog were printed, and this came of it. `is_from` says where the
     -- order came from.
     pub record Follows (is_from : Heard → Type 0) (old new : Shown) (printed : List ℕ)
@@ -221,20 +234,25 @@ module _ (made : Making → Type 0) (pinged : Result Health StoreFault → Type 
         (printed : List ℕ) × Hears old new came came_new printed told (Ok told) noted
         × Appends written written_new (printed ++ bytes_told told)
     Obeys old new came came_new written written_new (Err io.Read) noted =
-        idle × GoesThroughSteps old new [] × Keeps written written_new × (noted ≡ None)
+        idle None × GoesThroughSteps old new [] × Keeps written written_new × (noted ≡ None)
     Obeys old new came came_new written written_new (Err io.Write) noted =
         (printed : List ℕ) × (told : ControlReply) × Hears old new came came_new printed told (Err io.Write) noted
         × WritesSome written written_new (printed ++ bytes_told told)
 
--- So it was between two stores, by what is known of copies and counts, with the tally of the moment.
+-- So it was between two stores, by what is known of copies, of counts and of the reserve, with the tally of the moment.
 module _ {S K : Type 0} (shown : S → Shown) (made : S → S → Making → Type 0)
-    (counted : S → S → ℕ → Type 0) (meanwhile : K → K → S → S → Making → Type 0) (tally : Tally) (copies copies_new : K)
-    (old new : S) where
+    (counted : S → S → ℕ → Type 0) (meanwhile : K → K → S → S → Making → Type 0) (rests : K → K → Type 0)
+    (deeds : K → List RoomDeed) (tally : Tally) (copies copies_new : K) (old new : S) where
+  -- the order used the reserve, and all else stays
+  abbrev pub RestsBy : Option Heard → Type 0
+  RestsBy heard =
+      rests copies copies_new × UsesRoomIf (shown old) (shown new) (deeds copies) (deeds copies_new) heard
+
   abbrev pub HandlesBy : List ℕ → List ℕ → ControlReply → Option Noted → Type 0
   HandlesBy = Handles (made old new) (IsPinged tally (shown old).failures (shown new).failures (counted old new))
-      (copies_new ≡ copies) (meanwhile copies copies_new old new) (shown old) (shown new)
+      RestsBy (meanwhile copies copies_new old new) (shown old) (shown new)
 
   abbrev pub ObeysBy : Account → Account → Option (List ℕ) → Option (List ℕ) → Result ControlReply Io → Option Noted
       → Type 0
   ObeysBy = Obeys (made old new) (IsPinged tally (shown old).failures (shown new).failures (counted old new))
-      (copies_new ≡ copies) (meanwhile copies copies_new old new) (shown old) (shown new)
+      RestsBy (meanwhile copies copies_new old new) (shown old) (shown new)

@@ -1,6 +1,7 @@
 pub mod Asking
 pub mod WallClock
 pub mod Copying
+pub mod Counted
 pub mod Faults
 pub mod Metrics
 pub mod Health
@@ -23,4 +24,5 @@ pub mod ControlReply
 pub mod Traffic
 pub mod Tasks
 pub mod Traces
+pub mod Uses
 pub mod Visits

@@ -1,14 +1,18 @@
 -- A line among the bytes that were read.
-use Rattle.std.specs.Prelude.{ℕ, ◌≡◌, ◌<◌, ◌≤◌, ◌+◌, ◌⊎◌, ◌++◌, Bool, IsTrue, List, [], length, Contains}
+use Rattle.std.specs.Prelude.{ℕ, ◌≡◌, ◌<◌, ◌≤◌, ◌+◌, ◌⊎◌, ◌++◌, Bool, true, false, IsTrue, List, [], length, Contains}
+use Rattle.std.specs.Prelude.{Result, Ok, Err}
 use Rattle.histories.specs.Account.{Account, Gives}
-use Rattle.histories.specs.Calls.{BeginsNone, Reads}
-use Rattle.engine.specs.Causes.{IsUnreadable}
+use Rattle.histories.specs.Calls.{BeginsNone, FailsNone, FailsOnce, Reads}
+use Rattle.histories.specs.declared.failure.Failure.TheVariants as failure
+use Rattle.engine.specs.Causes.{IsUnreadable, most_reads}
 use Rattle.orders.specs.Order.{longest_copy}
 use Rattle.orders.specs.Words.{line_end}
 use Rattle.control.specs.declared.line.Came.{Came}
 use Rattle.control.specs.declared.line.Came.TheVariants.{All, Part, Interrupted, Late}
 use Rattle.control.specs.declared.line.Extent.{Extent}
 use Rattle.control.specs.declared.line.Extent.TheVariants.{Line, Stream}
+use Rattle.control.specs.declared.line.ReadError.{ReadError}
+use Rattle.control.specs.declared.line.ReadError.TheVariants.{Io, Memory}
 
 -- a line ends in the bytes, or would be longer than the most bytes that it may have
 abbrev pub HasEnough : ℕ → List ℕ → Type 0
@@ -102,6 +106,54 @@ ReadsFew extra reads reads_new len len_new =
 abbrev pub spare : Came → ℕ
 spare All = 1
 spare other = 0
+
+-- ---- reads that fail
+
+-- how a read failed, or that it did not, by what it came to
+abbrev pub FailsAs : Reads → Reads → Result Came ReadError → Type 0
+FailsAs reads reads_new (Ok Late) = FailsOnce failure.Late reads reads_new
+FailsAs reads reads_new (Ok Interrupted) = FailsOnce failure.Interrupted reads reads_new
+FailsAs reads reads_new (Ok other) = FailsNone reads reads_new
+FailsAs reads reads_new (Err Io) = FailsOnce failure.Broken reads reads_new
+FailsAs reads reads_new (Err Memory) = FailsNone reads reads_new
+
+-- so many reads began or failed
+abbrev pub Tries : ℕ → Reads → Reads → Type 0
+Tries tries reads reads_new = tries + (reads.begun + reads.failed) ≤ reads_new.begun + reads_new.failed
+
+-- No read was late, if a late one ends the reading: it may read on.
+abbrev pub NoneEnds : Bool → Reads → Reads → Type 0
+NoneEnds reads_on reads reads_new = reads_on ≡ false → reads_new.late ≡ reads.late
+
+-- none broke either
+abbrev pub ReadsWell : Bool → Reads → Reads → Type 0
+ReadsWell reads_on reads reads_new = (reads_new.broken ≡ reads.broken) × NoneEnds reads_on reads reads_new
+
+-- one read broke
+abbrev pub Breaks : Bool → Reads → Reads → Type 0
+Breaks reads_on reads reads_new =
+    (reads_new.broken ≡ reads.broken + 1) × (reads.failed < reads_new.failed) × NoneEnds reads_on reads reads_new
+
+-- one read was late, which ends the reading
+abbrev pub EndsLate : Bool → Reads → Reads → Type 0
+EndsLate reads_on reads reads_new =
+    (reads_on ≡ false) × (reads_new.late ≡ reads.late + 1) × (reads.failed < reads_new.failed)
+    × (reads_new.broken ≡ reads.broken)
+
+-- Why a reply was not read to its end: one read broke, or was late and that ends the reading. Or as many began or
+-- failed as may, of which none did so.
+abbrev pub IsUnheard : Bool → Reads → Reads → Type 0
+IsUnheard reads_on reads reads_new =
+    Breaks reads_on reads reads_new ⊎ EndsLate reads_on reads reads_new
+    ⊎ (Tries most_reads reads reads_new × ReadsWell reads_on reads reads_new)
+
+-- so a reading ended
+abbrev pub HearsReply : Bool → Reads → Reads → Result (Unit {0}) ReadError → Type 0
+HearsReply reads_on reads reads_new (Ok u) = ReadsWell reads_on reads reads_new
+HearsReply reads_on reads reads_new (Err Io) = IsUnheard reads_on reads reads_new
+HearsReply reads_on reads reads_new (Err Memory) = ReadsWell reads_on reads reads_new
+
+-- ---- a whole reply
 
 -- It was read, behind other bytes, and no more has to be.
 pub record ReadsReply (extent : Extent) (came came_new : Account) (got got_new : List ℕ) : Type 0 where

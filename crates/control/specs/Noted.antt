@@ -6,7 +6,8 @@ use Rattle.std.specs.declared.alloc.AllocError.{AllocError}
 use Rattle.engine.specs.declared.fault.Io.{Io}
 use Rattle.world.specs.declared.registry.StoreFault.{StoreFault}
 use Rattle.control.specs.Faults.{Admits}
-use Rattle.control.specs.Notices.{Answered, AreOfServer, Lost, Met, Occasion, Reserved, line_of, room_told}
+use Rattle.control.specs.Notices.{Answered, AtMostOne, IsOfFault, IsOfRoom, Lost, Met, Occasion, Reserved, line_of}
+use Rattle.control.specs.Notices.{room_told}
 use Rattle.control.specs.Reserve.{is_whole}
 use Rattle.control.specs.Traffic.{CountsOne, StaysUncounted, was_published}
 use Rattle.control.specs.declared.faults.RecentFaults.{RecentFaults}
@@ -100,7 +101,18 @@ AreOfRoom old new lines =
     ⊎ ((new ≢ old) × (told : Noted) × IsAbout (Reserved (room_told (is_whole new))) (Some told)
     × (lines ≡ noted_line told ∷ []))
 
--- these lines come first, and then others, which are about no order
+-- the lines that are written of what is noted come first, and then at most one of the room on the disk
 abbrev pub BeginsWith : Option Noted → List (List ℕ) → Type 0
 BeginsWith noted lines =
-    (own : List (List ℕ)) × (rest : List (List ℕ)) × (lines ≡ own ++ rest) × AreOf noted own × AreOfServer rest
+    (own : List (List ℕ)) × (room : List (List ℕ)) × (lines ≡ own ++ room) × AreOf noted own × AtMostOne IsOfRoom room
+
+-- The lines that are written for a peer: at most one of the room on the disk, and then at most one of a fault that its
+-- store noted, which is admitted behind those of the last minute.
+pub record AreForPeer (faults faults_new : RecentFaults) (lines : List (List ℕ)) : Type 0 where
+  pub room : List (List ℕ)
+  pub fault : List (List ℕ)
+  pub are : lines ≡ room ++ fault
+  pub of_room : AtMostOne IsOfRoom room
+  pub of_fault : AtMostOne IsOfFault fault
+  pub noted : Option Noted
+  pub unheld : AreUnheld faults faults_new noted fault

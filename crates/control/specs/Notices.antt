@@ -197,34 +197,44 @@ pub record WritesNotices (old new : Option (List ℕ)) : Type 0 where
   pub lines : AreNotices text
   pub writes : Appends old new text
 
--- Lines that are so were written whole, and nothing else, and are flushed if all before them was. Here and below a
--- writer is what it took, and the calls to it.
-pub record WritesWhole (are : List (List ℕ) → Type 0) (old new : Option (List ℕ) × Writes) : Type 0 where
+-- each of these is a beginning of the line beside it, or all of it
+abbrev pub AreBegun : List (List ℕ) → List (List ℕ) → Type 0
+AreBegun [] [] = Unit {0}
+AreBegun (piece ∷ pieces) (line ∷ lines) =
+    ((rest : List ℕ) × (line ≡ piece ++ rest)) × AreBegun pieces lines
+AreBegun pieces lines = ⊥
+
+-- Lines that are so were written, of some only a beginning, and nothing else. All are whole, and flushed if all before
+-- them was, unless a call to write or to flush failed. Here and below a writer is what it took, and the calls to it.
+pub record WritesLines (are : List (List ℕ) → Type 0) (old new : Option (List ℕ) × Writes) : Type 0 where
   pub lines : List (List ℕ)
   pub each : All IsNotice lines
   pub so : are lines
-  pub writes : Appends old.0 new.0 (joined lines)
-  pub flushed : old.1.unflushed ≡ [] → new.1.unflushed ≡ []
-
--- a line is about this though nobody gave an order: room on the disk, a fault that a store met, or lack of memory
-abbrev pub IsOfServer : Occasion → Type 0
-IsOfServer (Reserved told) = Unit {0}
-IsOfServer (Met asked fault) = Unit {0}
-IsOfServer Lost = Unit {0}
-IsOfServer other = ⊥
-
--- a text is such a line
-abbrev pub IsServerLine : List ℕ → Type 0
-IsServerLine line = ∥ ((about : Occasion) × IsOfServer about × (line ≡ line_of about)) ∥₁
-
--- so is each of these
-abbrev pub AreOfServer : List (List ℕ) → Type 0
-AreOfServer lines = All IsServerLine lines
-
--- so it was, or a call to write or to flush failed
-pub record WritesLines (are : List (List ℕ) → Type 0) (old new : Option (List ℕ) × Writes) : Type 0 where
+  pub pieces : List (List ℕ)
+  pub begun : AreBegun pieces lines
+  pub writes : Appends old.0 new.0 (joined pieces)
   pub no_fewer : old.1.failed ≤ new.1.failed
-  pub whole : (old.1.failed < new.1.failed) ⊎ WritesWhole are old new
+  pub whole : (old.1.failed < new.1.failed) ⊎ ((pieces ≡ lines) × (old.1.unflushed ≡ [] → new.1.unflushed ≡ []))
+
+-- a line says whether all of the room on the disk is there, or that memory ran out for that
+abbrev pub IsOfRoom : Occasion → Type 0
+IsOfRoom (Reserved told) = (is_whole : Bool) × (told ≡ room_told is_whole)
+IsOfRoom Lost = Unit {0}
+IsOfRoom other = ⊥
+
+-- a line says which fault a store met, or that memory ran out for that, or for the counts of a shelf
+abbrev pub IsOfFault : Occasion → Type 0
+IsOfFault (Met asked fault) = Unit {0}
+IsOfFault Lost = Unit {0}
+IsOfFault other = ⊥
+
+-- a text is the line of such an occasion
+abbrev pub IsLineAbout : (Occasion → Type 0) → List ℕ → Type 0
+IsLineAbout such line = ∥ ((about : Occasion) × such about × (line ≡ line_of about)) ∥₁
+
+-- there is one such line, or none
+abbrev pub AtMostOne : (Occasion → Type 0) → List (List ℕ) → Type 0
+AtMostOne such lines = (lines ≡ []) ⊎ ((line : List ℕ) × (lines ≡ line ∷ []) × IsLineAbout such line)
 
 -- a line begins behind these bytes
 abbrev pub EndsLine : List ℕ → Type 0

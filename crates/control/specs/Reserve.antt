@@ -1,5 +1,7 @@
 -- The room on the disk of a store that an order gives up when it meets a fault of the disk.
-use Rattle.std.specs.Prelude.{ℕ, ◌≡◌, ◌≤◌, ◌+◌, ◌-◌, ◌^◌, ◌⊎◌, ◌++◌, Bool, true, false, List, [], ◌∷◌, Result, IsErrOf}
+use Rattle.std.specs.Prelude.{ℕ, ◌≡◌, ◌≤◌, ◌+◌, ◌-◌, ◌^◌, ◌⊎◌, ◌++◌, Bool, true, false, List, [], ◌∷◌, All}
+use Rattle.std.specs.Prelude.{Result, Err, IsErrOf}
+use Rattle.std.specs.Borrow.{MutBor}
 use Rattle.world.specs.World.{World}
 use Rattle.world.specs.Store.{Shown, GrewOrFull}
 use Rattle.world.specs.declared.registry.RegistryReply.{RegistryReply}
@@ -8,7 +10,7 @@ use Rattle.world.specs.declared.registry.StoreFault.TheVariants.{Device}
 use Rattle.control.specs.declared.reserve.Room.{Room}
 use Rattle.control.specs.declared.reserve.Room.TheVariants.{Whole, Short, Missing}
 use Rattle.control.specs.declared.reserve.RoomDeed.{RoomDeed}
-use Rattle.control.specs.declared.reserve.RoomDeed.TheVariants.{GaveUp, Renewed}
+use Rattle.control.specs.declared.reserve.RoomDeed.TheVariants.{Made, GaveUp, Renewed}
 
 -- all of the room is there
 abbrev pub is_whole : Room → Bool
@@ -39,6 +41,37 @@ pub record UsesRoom (old new : Shown) (deeds deeds_new : List RoomDeed) (result 
   pub cause : (deeds_new ≡ deeds) ⊎ GrewOrFull old.failures new.failures
   -- room that was given up was taken again
   pub renewed : (deeds_new ≡ deeds) ⊎ (FindsNone deeds deeds_new ⊎ GivesUp deeds deeds_new)
+  -- no room was there only where it then ended with the fault of the disk
+  pub none : FindsNone deeds deeds_new → result ≡ Err Device
   -- it ended with a fault of the disk only where there was no room, or where it met a second one with it
   pub device : IsErrOf result Device → FindsNone deeds deeds_new
       ⊎ (GivesUp deeds deeds_new × GrewTwiceOrFull old.failures new.failures)
+
+-- room was taken again
+abbrev pub IsRenewal : RoomDeed → Type 0
+IsRenewal Renewed = Unit {0}
+IsRenewal (Made is_whole) = ⊥
+IsRenewal (GaveUp some) = ⊥
+
+-- What an order that ended so did to the reserve, whatever the store had met before it: nothing, which is not so where
+-- it ended with a fault of the disk; it found no room, and ended with that fault; or it gave room up, and took it again.
+abbrev pub IsUse : Result RegistryReply StoreFault → List RoomDeed → Type 0
+IsUse result own = ((own ≡ []) × ¬ (result ≡ Err Device))
+    ⊎ (((own ≡ GaveUp false ∷ []) × (result ≡ Err Device)) ⊎ (own ≡ GaveUp true ∷ Renewed ∷ []))
+
+-- what was done to the reserve of a server so far, and the name of its loan
+abbrev pub Lent : Type 0
+Lent = List RoomDeed × ℕ
+
+-- the reserve as a server has it
+abbrev pub lent : {M : Type 0} → (M → List RoomDeed) → MutBor M → Lent
+lent deeds reserve = (deeds reserve.now, reserve.ghost_name)
+
+-- to the same reserve this was done, and nothing else
+abbrev pub DoesMore : (does : List RoomDeed → Type 0) → Lent → Lent → Type 0
+DoesMore does lent lent_new =
+    (lent_new.1 ≡ lent.1) × (more : List RoomDeed) × (lent_new.0 ≡ lent.0 ++ more) × does more
+
+-- room was taken again, any number of times, and nothing else was done to the reserve
+abbrev pub Renews : Lent → Lent → Type 0
+Renews = DoesMore (All IsRenewal)

@@ -1,18 +1,19 @@
--- What is written of the orders that operators sent: a line for each.
+-- What is written while callers are served: a line for each order, and what there is to say of faults and of room.
 use Rattle.std.specs.Prelude.{ℕ, ◌≡◌, ◌⊎◌, List, ◌∷◌, [], ◌++◌, Option, Some, None, Result, Ok, Err}
 use Rattle.histories.specs.Account.{Account}
 use Rattle.histories.specs.Calls.{Reads, Writes}
 use Rattle.world.specs.Store.{Shown}
 use Rattle.engine.specs.declared.fault.Io.{Io}
-use Rattle.socket.specs.History.{Door}
+use Rattle.socket.specs.History.{Door, Known}
 use Rattle.socket.specs.declared.callers.Caller.{Caller}
 use Rattle.control.specs.Copying.{Making}
 use Rattle.control.specs.Hearing.{Heard, done_notice}
-use Rattle.control.specs.Noted.{IsNoted, Noted}
-use Rattle.control.specs.Notices.{Answered, AreOfServer, Lost, Occasion, WritesLines, line_of}
-use Rattle.control.specs.Visits.{Call, EndsEach, OfOperator, OfPeer, Untaken}
+use Rattle.control.specs.Noted.{AreForPeer, IsNoted, Noted}
+use Rattle.control.specs.Notices.{Answered, AtMostOne, IsOfRoom, Lost, Occasion, WritesLines, line_of}
+use Rattle.control.specs.Visits.{Call, EndsEach, IsLong, OfOperator, OfPeer, Untaken}
 use Rattle.control.specs.declared.control_reply.ControlReply.{ControlReply}
 use Rattle.control.specs.declared.control_reply.ControlReply.TheVariants as spoken
+use Rattle.control.specs.declared.faults.RecentFaults.{RecentFaults}
 
 -- what was done is told of, and if nothing was, the outcome that the operator was told
 abbrev pub or_told : Option Occasion → Result ControlReply Io → Option Occasion
@@ -36,36 +37,54 @@ IsDoneNoted (Some heard) said noted = IsNoted (done_notice heard said) noted
 abbrev pub IsLineFor : Occasion → List ℕ → Type 0
 IsLineFor about line = (line ≡ line_of about) ⊎ (line ≡ line_of Lost)
 
--- one of the lines is for this occasion, if there is one, and the others are the rest
-abbrev pub HasLineFor : Option Occasion → List (List ℕ) → List (List ℕ) → Type 0
-HasLineFor None lines rest = rest ≡ lines
-HasLineFor (Some about) lines rest =
-    (front : List (List ℕ)) × (line : List ℕ) × (back : List (List ℕ))
-    × (lines ≡ front ++ line ∷ back) × (rest ≡ front ++ back) × IsLineFor about line
+-- there is one line for this occasion, or none if there is no occasion
+abbrev pub AreFor : Option Occasion → List (List ℕ) → Type 0
+AreFor None lines = lines ≡ []
+AreFor (Some about) lines = (line : List ℕ) × (lines ≡ line ∷ []) × IsLineFor about line
 
--- the lines have one for an operator's order, and the others are about no order
+-- the lines of an operator: one for its order, and then at most one of the room on the disk
 abbrev pub HasTrace : Option Heard → Result ControlReply Io → List (List ℕ) → Type 0
 HasTrace heard said lines =
-    (rest : List (List ℕ)) × HasLineFor (occasion_of heard said) lines rest × AreOfServer rest
+    (own : List (List ℕ)) × (room : List (List ℕ)) × (lines ≡ own ++ room) × AreFor (occasion_of heard said) own
+    × AtMostOne IsOfRoom room
 
--- a line was written for an operator's order, unless a write or a flush failed
+-- a line was written for an operator's order
 abbrev pub WritesTrace : Option Heard → Result ControlReply Io → (old new : Option (List ℕ) × Writes) → Type 0
 WritesTrace heard said old new = WritesLines (HasTrace heard said) old new
 
--- the lines have one for each operator: no two orders share one, and the others are about no order
-abbrev pub HasTraces : {P O : Type 0} → List (Call P O) → List (List ℕ) → Type 0
-HasTraces [] lines = AreOfServer lines
-HasTraces (OfPeer visit answered ∷ calls) lines = HasTraces calls lines
-HasTraces (OfOperator x ∷ calls) lines =
-    (rest : List (List ℕ)) × HasLineFor (occasion_of x.heard x.told) lines rest × HasTraces calls rest
-HasTraces (Untaken ∷ calls) lines = HasTraces calls lines
+module _ {P O : Type 0} where
+  -- The lines are those of these callers, in their order; where something was made for an operator, its own come behind
+  -- those of the callers who were served meanwhile. The faults that are remembered go on by those of each peer.
+  abbrev pub HasLines : RecentFaults → RecentFaults → List (Call P O) → List (List ℕ) → Type 0
+  HasLines faults faults_new [] lines = (lines ≡ []) × (faults_new ≡ faults)
+  HasLines faults faults_new (OfPeer visit answered ∷ calls) lines =
+      (mid : RecentFaults) × (own : List (List ℕ)) × (rest : List (List ℕ)) × (lines ≡ own ++ rest)
+      × AreForPeer faults mid own × HasLines mid faults_new calls rest
+  HasLines faults faults_new (OfOperator x ∷ calls) lines =
+      (inner : List (List ℕ)) × (own : List (List ℕ)) × (rest : List (List ℕ)) × (lines ≡ inner ++ (own ++ rest))
+      × ((inner ≡ []) ⊎ IsLong x.heard) × HasTrace x.heard x.told own × HasLines faults faults_new calls (inner ++ rest)
+  HasLines faults faults_new (Untaken ∷ calls) lines = HasLines faults faults_new calls lines
 
--- The callers were served as `EndsEach` says, and a line was written for each order, unless a write or a flush failed.
+  -- so it is from the first fault on
+  abbrev pub HasTraces : List (Call P O) → List (List ℕ) → Type 0
+  HasTraces calls lines =
+      (faults : RecentFaults) × (faults_new : RecentFaults) × (faults.told.items ≡ [])
+      × HasLines faults faults_new calls lines
+
+-- what a server tells: what its writer of notices took, with the calls to it, and the faults that are remembered
+abbrev pub Log : Type 0
+Log = (Option (List ℕ) × Writes) × RecentFaults
+
+-- the lines of these callers were written
+abbrev pub WritesTraces : {P O : Type 0} → List (Call P O) → Log → Log → Type 0
+WritesTraces calls old new = WritesLines (HasLines old.1 new.1 calls) old.0 new.0
+
+-- the callers were served as `EndsEach` says, and their lines were written
 pub record TracesEach {P O : Type 0} (heeded : O → Account × Reads) (told : O → Option (List ℕ) × Writes)
     (heard : P → Account × Reads) (written : P → Option (List ℕ) × Writes)
     {S : Type 0} (shown : S → Shown) (made : S → S → Making → Type 0)
-    (counted : S → S → ℕ → Type 0) (is_new : Caller P O → Type 0)
+    (counted : S → S → ℕ → Type 0) (known : Known P O)
     (door left : Door (Caller P O)) (old new : S) (since : List ℕ) (connections : ℕ)
     (errors errors_new : Option (List ℕ) × Writes) : Type 0 where
-  pub ends : EndsEach heeded told heard written shown made counted is_new door left old new since connections
+  pub ends : EndsEach heeded told heard written shown made counted known door left old new since connections
   pub traces : WritesLines (HasTraces ends.reads.each.calls) errors errors_new

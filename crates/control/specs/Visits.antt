@@ -1,6 +1,6 @@
 -- Peers and operators, one after another.
-use Rattle.std.specs.Prelude.{ℕ, ◌≡◌, ◌<◌, ◌≤◌, ◌+◌, ◌-◌, ◌^◌, ◌⊎◌, ◌↔◌, Bool, IsTrue}
-use Rattle.std.specs.Prelude.{List, [], ◌∷◌, ◌++◌, length, map, All, Option, Some, None, Result, Ok, Err, IsErrOf}
+use Rattle.std.specs.Prelude.{ℕ, zero, suc, ◌≡◌, ◌<◌, ◌≤◌, ◌+◌, ◌-◌, ◌^◌, ◌⊎◌, ◌↔◌, Bool, IsTrue}
+use Rattle.std.specs.Prelude.{List, [], ◌∷◌, ◌++◌, length, map, All, Option, Some, None, Result, Ok, Err}
 use Rattle.std.specs.Io.KnownBytes.{Appends, Keeps}
 use Rattle.histories.specs.Account.{Account}
 use Rattle.histories.specs.Calls.{Reads, Writes}
@@ -8,13 +8,15 @@ use Rattle.world.specs.Store.{Shown}
 use Rattle.world.specs.World.{World}
 use Rattle.world.specs.declared.registry.StoreFault.{StoreFault}
 use Rattle.engine.specs.Causes.{IsUnreadable}
-use Rattle.engine.specs.First.{First, first_status}
 use Rattle.engine.specs.declared.fault.Io.{Io}
 use Rattle.engine.specs.declared.fault.Io.TheVariants as io
 use Rattle.socket.specs.Connections.{Visit, Come, exchanges_of}
 use Rattle.socket.specs.Connections as socket
-use Rattle.socket.specs.History.{Done, Door}
+use Rattle.socket.specs.History.{Done, Door, Known, written_whole}
+use Rattle.socket.specs.declared.deed.Deed.{Deed}
 use Rattle.socket.specs.declared.deed.Deed.TheVariants as deed
+use Rattle.socket.specs.declared.deed.Search.{Search}
+use Rattle.socket.specs.declared.deed.Search.TheVariants.{Waiting, AtOnce}
 use Rattle.control.specs.Copying.{Making, Step, OfTask, AllRead, GoesThroughSteps, IsBusy}
 use Rattle.control.specs.Health.{Answered, tally_of}
 use Rattle.control.specs.Hearing.{Heard, Made, Pinged, CameOf, GoesAs, IsHeard, ListsBy, WritesSome}
@@ -55,27 +57,73 @@ abbrev pub IsLong : Option Heard → Type 0
 IsLong (Some (Made making)) = ¬ IsBusy making
 IsLong other = ⊥
 
--- These deeds are those for these callers. Each was taken in its turn, as it came, or could not be. The connection of a
--- peer was ended as it was left before anything else was done, and that of an operator after it was obeyed; where
--- something was made for it, others may have been taken, and ended, before that.
+-- how the next caller is looked for while so many are connected: it is waited for only while nobody is
+abbrev pub search_with : ℕ → Search
+search_with zero = Waiting
+search_with (suc n) = AtOnce
+
+abbrev pub one_less : ℕ → ℕ
+one_less zero = zero
+one_less (suc n) = n
+
+module _ {C : Type 0} where
+  -- if a caller was to be taken, it was looked for so
+  abbrev pub IsSought : Search → Deed C → Type 0
+  IsSought search (deed.Taken how caller) = how ≡ search
+  IsSought search (deed.Untaken how) = how ≡ search
+  IsSought search other = Unit {0}
+
+  -- how many are connected after a deed, if so many are before it
+  abbrev pub connected_after : ℕ → Deed C → ℕ
+  connected_after n (deed.Taken search caller) = suc n
+  connected_after n (deed.Ended caller) = one_less n
+  connected_after n other = n
+
+  -- So many were connected before these deeds, and so many after them. Whoever came next was waited for while nobody
+  -- was connected, and nobody was waited for while somebody was.
+  abbrev pub AreSought : ℕ → List (Done C) → ℕ → Type 0
+  AreSought n [] m = n ≡ m
+  AreSought n (done ∷ deeds) m = IsSought (search_with n) done.1 × AreSought (connected_after n done.1) deeds m
+
+  -- What was done before an operator who ordered this was left. If something was made for it, it was watched, and then
+  -- this was done for others; and otherwise nothing was done.
+  abbrev pub IsWithin : Option Heard → List (Done C) → List (Done C) → Type 0
+  IsWithin heard within others =
+      ((¬ IsLong heard) × (within ≡ []) × (others ≡ [])) ⊎ (IsLong heard × (within ≡ ([], deed.Watched) ∷ others))
+
+-- These deeds are those for these callers. Each was taken in its turn, as it came, or could not be. A peer was left, with
+-- the status of its reply if that was written whole, and its connection ended, before anything else was done; and an
+-- operator after it was obeyed. Where something was made for it, it was watched as soon as it was taken, and others may
+-- have been taken, and ended, before that.
 module _ {P O : Type 0} where
   abbrev pub Happens : List (Call P O) → List (Done (Caller P O)) → Type 0
   Happens [] deeds = deeds ≡ []
   Happens (OfPeer visit answered ∷ calls) deeds =
-      (rest : List (Done (Caller P O)))
-      × (deeds ≡ ([], deed.Taken (Peer visit.before)) ∷ ([], deed.Ended (Peer visit.after)) ∷ rest)
+      (how : Search) × (rest : List (Done (Caller P O)))
+      × (deeds ≡ ([], deed.Taken how (Peer visit.before)) ∷ ([], deed.Left (Peer visit.after) (written_whole answered))
+      ∷ ([], deed.Ended (Peer visit.gone)) ∷ rest)
       × Happens calls rest
   Happens (OfOperator audience ∷ calls) deeds =
-      (inner : List (Done (Caller P O))) × (rest : List (Done (Caller P O)))
-      × (deeds ≡ ([], deed.Taken (Operator audience.before)) ∷ inner
-      ++ ([], deed.Ended (Operator audience.after)) ∷ rest)
-      × ((inner ≡ []) ⊎ IsLong audience.heard) × Happens calls (inner ++ rest)
+      (how : Search) × (within : List (Done (Caller P O))) × (others : List (Done (Caller P O)))
+      × (rest : List (Done (Caller P O)))
+      × (deeds ≡ ([], deed.Taken how (Operator audience.before)) ∷ within
+      ++ ([], deed.Left (Operator audience.after) None) ∷ ([], deed.Ended (Operator audience.after)) ∷ rest)
+      × IsWithin audience.heard within others × Happens calls (others ++ rest)
   Happens (Untaken ∷ calls) deeds =
-      (rest : List (Done (Caller P O))) × (deeds ≡ ([], deed.Untaken) ∷ rest) × Happens calls rest
+      (how : Search) × (rest : List (Done (Caller P O))) × (deeds ≡ ([], deed.Untaken how) ∷ rest) × Happens calls rest
 
-  -- the second history is the first, and then what was done for these callers
-  abbrev pub Happened : List (Done (Caller P O)) → List (Done (Caller P O)) → List (Call P O) → Type 0
-  Happened before after calls = (deeds : List (Done (Caller P O))) × (after ≡ before ++ deeds) × Happens calls deeds
+  -- The second history is the first, and then what was done for these callers, while so many others were connected. Each
+  -- was waited for if nobody was connected, and otherwise only looked for.
+  abbrev pub Happened : ℕ → List (Done (Caller P O)) → List (Done (Caller P O)) → List (Call P O) → Type 0
+  Happened connected before after calls =
+      (deeds : List (Done (Caller P O))) × (after ≡ before ++ deeds) × Happens calls deeds
+      × AreSought connected deeds connected
+
+-- the connection of a peer was ended as that of one who got a reply with this status, or none
+abbrev pub IsClosed : {P O : Type 0} → Known P O → Call P O → Type 0
+IsClosed known (OfPeer visit answered) = known.is_ended visit.after (written_whole answered) visit.gone
+IsClosed known (OfOperator audience) = Unit {0}
+IsClosed known Untaken = Unit {0}
 
 -- the steps of what an operator ordered, or none if no line was read
 abbrev pub steps_if : Option Heard → List Step
@@ -83,8 +131,8 @@ steps_if None = []
 steps_if (Some heard) = steps_heard heard
 
 -- the store went through what a line ordered, or nothing happened if no line was read
-abbrev pub GoesIf : (idle : Type 0) (meanwhile : Making → Type 0) → Shown → Shown → Option Heard → Type 0
-GoesIf idle meanwhile old new None = idle × GoesThroughSteps old new []
+abbrev pub GoesIf : (idle : Option Heard → Type 0) (meanwhile : Making → Type 0) → Shown → Shown → Option Heard → Type 0
+GoesIf idle meanwhile old new None = idle None × GoesThroughSteps old new []
 GoesIf idle meanwhile old new (Some heard) = GoesAs idle meanwhile old new heard
 
 -- the steps of one caller: at most two
@@ -147,14 +195,6 @@ abbrev pub ListsIf : Shown → Shown → Option Heard → Type 0
 ListsIf old new None = Unit {0}
 ListsIf old new (Some heard) = ListsBy old new heard
 
--- The connection counts as what became of it: by the status that was written for what came first, or as one that
--- failed.
-abbrev pub CountsAs : Option First → Answered → Type 0
-CountsAs None (Ok status) = ⊥
-CountsAs None (Err e) = e ≡ io.Read
-CountsAs (Some first) (Ok status) = status ≡ first_status first
-CountsAs (Some first) (Err e) = e ≡ io.Write
-
 -- a ping was told these counts
 abbrev pub TellsTally : Tally → Option Heard → Type 0
 TellsTally tally (Some (Pinged (Ok health))) = health.tally ≡ tally
@@ -170,17 +210,6 @@ IsTallied since before Untaken = Unit {0}
 abbrev pub AllTallied : {P O : Type 0} → List ℕ → List (Call P O) → List (Call P O) → Type 0
 AllTallied since before [] = Unit {0}
 AllTallied since before (call ∷ calls) = IsTallied since before call × AllTallied since (before ++ call ∷ []) calls
-
--- if the reply counts as one that was not written, a call to write it or to flush it failed
-abbrev pub FailsIfUnwritten : Answered → ℕ → ℕ → Type 0
-FailsIfUnwritten answered failed failed_new = IsErrOf answered io.Write → failed < failed_new
-
--- A peer was answered, and left so, and its connection counts as what became of it.
-pub record AnswersOne {P : Type 0} (heard : P → Account × Reads) (written : P → Option (List ℕ) × Writes)
-    (peer gone : P) (old new : Shown) (answered : Answered) : Type 0 where
-  pub answers : socket.Answers heard written peer gone old new
-  pub counts : CountsAs answers.first answered
-  pub cause : FailsIfUnwritten answered (written peer).1.failed (written gone).1.failed
 
 module _ {O : Type 0} (heeded : O → Account × Reads) (told : O → Option (List ℕ) × Writes) where
   -- What was read came from this operator, and what came of it went to this operator: the whole line, or where a write
@@ -200,7 +229,7 @@ module _ {O : Type 0} (heeded : O → Account × Reads) (told : O → Option (Li
   -- This operator was obeyed, and left so, and the store went through its order. The flag says whether it was told that
   -- the server ends.
   pub record ObeysOne (made : Making → Type 0)
-      (pinged : Result Health StoreFault → Type 0) (idle : Type 0) (meanwhile : Making → Type 0)
+      (pinged : Result Health StoreFault → Type 0) (idle : Option Heard → Type 0) (meanwhile : Making → Type 0)
       (operator gone : O) (stops : Bool) (old new : Shown) : Type 0 where
     pub audience : Audience O
     pub begins : audience.before ≡ operator
@@ -213,23 +242,22 @@ module _ {O : Type 0} (heeded : O → Account × Reads) (told : O → Option (Li
 
   module _ {P : Type 0} (heard : P → Account × Reads) (written : P → Option (List ℕ) × Writes) where
     abbrev pub IsCallThere : Call P O → Type 0
-    IsCallThere (OfPeer visit answered) =
-        socket.IsAnsweredThere heard written visit × CountsAs visit.first answered
-        × FailsIfUnwritten answered (written visit.before).1.failed (written visit.after).1.failed
+    IsCallThere (OfPeer visit answered) = socket.IsAnsweredAs heard written visit answered
     IsCallThere (OfOperator audience) = IsToldThere audience.before audience.after audience.heard audience.told
     IsCallThere Untaken = Unit {0}
 
     -- The callers were served one after another, each once, and at most as many peers as there are connections. Each
     -- was new. What a peer sent was answered to that peer, whose connection counts as failed only if a call of it
-    -- failed. The outcome of an operator's order went to that operator. Nobody else was taken, and each who was taken
-    -- was ended as it was left.
-    pub record ServesEach (is_new : Caller P O → Type 0) (door left : Door (Caller P O)) (old new : Shown)
+    -- failed. The outcome of an operator's order went to that operator. Nobody else was taken. Each who was taken was
+    -- left, a peer with the status of its reply if that was written whole, and its connection ended by that.
+    pub record ServesEach (known : Known P O) (door left : Door (Caller P O)) (old new : Shown)
         (connections : ℕ) : Type 0 where
       pub calls : List (Call P O)
       pub few : peers calls ≤ connections
       pub came : Come door.0 left.0 (callers_of calls)
-      pub happened : Happened door.1 left.1 calls
-      pub begun : All is_new (callers_of calls)
+      pub happened : Happened 0 door.1 left.1 calls
+      pub begun : All known.is_new (callers_of calls)
+      pub closed : All (IsClosed known) calls
       pub there : All IsCallThere calls
       pub through : GoesThroughSteps old new (steps_with calls)
 
@@ -237,9 +265,9 @@ module _ {O : Type 0} (heeded : O → Account × Reads) (told : O → Option (Li
     -- world, and each ping was told what was counted in it, and how the connections before it were answered.
     pub record ReadsEach
         {S : Type 0} (shown : S → Shown) (made : S → S → Making → Type 0)
-        (counted : S → S → ℕ → Type 0) (is_new : Caller P O → Type 0)
+        (counted : S → S → ℕ → Type 0) (known : Known P O)
         (door left : Door (Caller P O)) (old new : S) (since : List ℕ) (connections : ℕ) : Type 0 where
-      pub each : ServesEach is_new door left (shown old) (shown new) connections
+      pub each : ServesEach known door left (shown old) (shown new) connections
       pub reads : (shown new).is_honest → (w : World) → (shown old).stands w
           → AllRead shown made counted w (steps_with each.calls)
       pub tallies : AllTallied since [] each.calls
@@ -247,7 +275,7 @@ module _ {O : Type 0} (heeded : O → Account × Reads) (told : O → Option (Li
     -- So it was, and it ended as `IsEnd` says.
     pub record EndsEach
         {S : Type 0} (shown : S → Shown) (made : S → S → Making → Type 0)
-        (counted : S → S → ℕ → Type 0) (is_new : Caller P O → Type 0)
+        (counted : S → S → ℕ → Type 0) (known : Known P O)
         (door left : Door (Caller P O)) (old new : S) (since : List ℕ) (connections : ℕ) : Type 0 where
-      pub reads : ReadsEach shown made counted is_new door left old new since connections
+      pub reads : ReadsEach shown made counted known door left old new since connections
       pub ends : IsEnd connections reads.each.calls

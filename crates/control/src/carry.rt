@@ -4,7 +4,7 @@ ghost use Rattle.world.specs.Store.{Does};
 ghost use Rattle.control.specs.RegistryCommand.{event_of, outcome_in};
 ghost use Rattle.control.specs.Reserve.{UsesRoom};
 
-use crate::reserve::Reserve;
+use crate::copies::CopyOrders;
 use orders::RegistryCommand;
 use world::registry::{RegistryReply, StoreFault};
 use world::shelves::Shelves;
@@ -27,27 +27,28 @@ pub fn carry_out<S: Shelves>(
     }
 }
 
-/// Carries out a registry command as [`carry_out`] does, once more if the disk failed and the reserve had room to give
-/// up, which is then taken again. It is one event, however often it is tried. Fails if the store meets a fault: with
+/// Carries out a registry command as [`carry_out`] does, once more if the disk failed and `copies` had room to give up,
+/// which is then taken again. It is one event, however often it is tried. Fails if the store meets a fault: with
 /// `Device` only if no room was given up, or if the disk failed again with it.
-pub fn carry_out_in<S: Shelves, R: Reserve<S>>(
+pub fn carry_out_in<S: Shelves, K: CopyOrders<S>>(
     shelves: &mut S,
-    reserve: &mut R,
+    copies: &mut K,
     command: &RegistryCommand,
 ) -> Result<RegistryReply, StoreFault>
     ensures does { Does (S.shown shelves.old) (S.shown shelves.new) result
         (λ w. outcome_in w command.now) (λ w. after w (event_of command.now)) }
     ensures room { UsesRoom (S.shown shelves.old) (S.shown shelves.new)
-        (R.deeds reserve.old) (R.deeds reserve.new) result }
+        (K.deeds copies.old) (K.deeds copies.new) result }
+    ensures rests { K.rests copies.old copies.new }
 {
     let first = carry_out(shelves, command);
     let Err(StoreFault::Device) = first else {
         return first;
     };
-    if !reserve.give_up() {
+    if !copies.give_up_room() {
         return first;
     }
     let second = carry_out(shelves, command);
-    reserve.renew();
+    copies.renew_room();
     second
 }

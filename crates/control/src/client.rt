@@ -1,5 +1,5 @@
 //! The operator's side.
-ghost use Rattle.std.specs.Prelude.{◌≡◌, ◌<◌, ◌≤◌, [], IfOk, MatchOption, length, take, vec_capacity, vec_len};
+ghost use Rattle.std.specs.Prelude.{◌≡◌, ◌<◌, ◌≤◌, [], false, IfOk, MatchOption, length, take, vec_capacity, vec_len};
 ghost use Rattle.orders.specs.Order.{Ping, ordered};
 ghost use Rattle.control.specs.Asking as spec;
 ghost use Rattle.control.specs.Line.{reply_room};
@@ -63,14 +63,15 @@ pub enum OrderReply {
     Text(Bytes),
 }
 
-/// Sends an order, and returns what came of it.
+/// Sends an order, and returns what came of it. A late read of the reply is the last.
 pub fn send<R: Hear, W: Tell>(
     alloc: Global,
     reader: &mut R,
     writer: &mut W,
     order: &Order,
 ) -> Result<OrderReply, SendError>
-    ensures { spec.OrderGets (R.account reader.old) (R.account reader.new) (R.reads reader.old) (R.reads reader.new)
+    ensures { spec.OrderGets false (R.account reader.old) (R.account reader.new)
+        (R.reads reader.old) (R.reads reader.new)
         (W.contents writer.old) (W.contents writer.new) (W.writes writer.old).failed (W.writes writer.new).failed
         (ordered order.now) result }
 {

@@ -1,6 +1,5 @@
 //! What reads a store that is served: copies of it, the catalogs of its keys, and how much it keeps.
 use crate::health::Metrics;
-use crate::reserve::KeepsRoom;
 use histories::ResetDeadline;
 use interleave::between::Between;
 use std::alloc::Global;
@@ -39,13 +38,11 @@ pub enum CatalogRefusal {
     Output,
 }
 
-/// What copies a store while it is served, prints the catalogs of its keys, counts what it keeps, and keeps room on its
-/// disk.
-pub trait Copies<S: Shelves>: KeepsRoom {
-    ghost use Rattle.std.specs.Prelude.{ℕ, ◌≡◌, ◌≢◌, ◌<◌, ◌≤◌, true, List, [], Err, IfErr, IfOk, IsErrOf};
+/// What copies a store while it is served, prints the catalogs of its keys, and counts what it keeps.
+pub trait Copies<S: Shelves> {
+    ghost use Rattle.std.specs.Prelude.{ℕ, ◌≡◌, ◌≢◌, ◌<◌, ◌≤◌, List, [], Err, IfErr, IfOk, IsErrOf};
     ghost use Rattle.std.specs.Io.KnownBytes.{Appends};
     ghost use Rattle.control.specs.Copying.{IsOnlyRead, Making, OfKey, ToPath};
-    ghost use Rattle.control.specs.Reserve.{LeavesOthers};
     ghost use Rattle.control.specs.declared.copies.CatalogRefusal.TheVariants as catalog;
     ghost use Rattle.control.specs.declared.copies.CopyRefusal.TheVariants.{Busy, Ended};
     ghost use Rattle.control.specs.declared.health.Metrics.{Metrics};
@@ -117,30 +114,23 @@ pub trait Copies<S: Shelves>: KeepsRoom {
     fn figures<'s>(&self, shelves: &'s S) -> Metrics<'s>
         ensures { figured shelves.now result };
 
-    /// Has room kept on the disk of the served store from now on, so that an order can be carried out once the disk is
-    /// full, and returns whether all of it is there.
-    fn make_room(&self) -> bool;
-
-    /// Gives up the room that is kept on the disk of the served store, and returns whether there was some. Only a store
-    /// that can be asked again has some.
-    fn give_up_room(&self) -> bool
-        ensures { result ≡ true → (s : S) → LeavesOthers (S.shown s) };
-
     // An order that comes while a copy is made or a catalog is printed does nothing.
     ghost busy: { (s : S) (path : List ℕ) → made s s (ToPath path (Err Busy)) };
 
     ghost no_catalog: { (s : S) (key : List ℕ) → made s s (OfKey key [] (Err catalog.Busy)) };
 }
 
-/// What carries out the orders to copy a store and to print a catalog, counts what it keeps, and keeps room on its
-/// disk.
-pub trait CopyOrders<S: Shelves>: KeepsRoom {
-    ghost use Rattle.std.specs.Prelude.{ℕ, ◌≡◌, ◌<◌, ◌≤◌, true, List, Err, IfOk};
+/// What carries out the orders to copy a store and to print a catalog, counts what it keeps, and has the room that is
+/// kept on its disk for the other orders.
+pub trait CopyOrders<S: Shelves> {
+    ghost use Rattle.std.specs.Prelude.{ℕ, ◌≡◌, ◌<◌, ◌≤◌, ◌++◌, true, List, [], ◌∷◌, Err, IfOk};
     ghost use Rattle.std.specs.Io.KnownBytes.{Appends};
     ghost use Rattle.control.specs.Copying.{IsOnlyRead, Making, OfKey, ToPath};
     ghost use Rattle.control.specs.Reserve.{LeavesOthers};
     ghost use Rattle.control.specs.declared.copies.CatalogRefusal.TheVariants as catalog;
     ghost use Rattle.control.specs.declared.health.Metrics.{Metrics};
+    ghost use Rattle.control.specs.declared.reserve.RoomDeed.{RoomDeed};
+    ghost use Rattle.control.specs.declared.reserve.RoomDeed.TheVariants.{GaveUp, Renewed};
     ghost use Rattle.world.specs.Store.{HasCause};
 
     /// What is made of the store: relates it before and after that, and what was made.
@@ -156,9 +146,14 @@ pub trait CopyOrders<S: Shelves>: KeepsRoom {
     /// it to the store before and after it, and to what was made.
     ghost meanwhile: { Self → Self → S → S → Making → Type 0 };
 
+    /// What was done so far to the room that is kept on the disk of the store, the oldest first.
+    ghost deeds: { Self → List RoomDeed };
+
+    /// What else stays while another order uses that room: relates this value before and after it.
+    ghost rests: { Self → Self → Type 0 };
+
     /// Makes the store of a file, with this path, one of the store as it is at this moment. Fails as `Copies::copy`
-    /// does, and with `Busy` if another copy is being made or a catalog is
-    /// printed.
+    /// does, and with `Busy` if another copy is being made or a catalog is printed.
     fn copy_to(&mut self, shelves: &mut S, path: &str) -> Result<(), CopyRefusal>
         ensures meanwhile { meanwhile self.old self.new shelves.old shelves.new (ToPath path.now result) }
         ensures came { made shelves.old shelves.new (ToPath path.now result) };
@@ -192,6 +187,19 @@ pub trait CopyOrders<S: Shelves>: KeepsRoom {
 
     /// Gives up the room that is kept on the disk of the store, and returns whether there was some. Only a store that
     /// can be asked again has some.
-    fn give_up_room(&self) -> bool
-        ensures { result ≡ true → (s : S) → LeavesOthers (S.shown s) };
+    fn give_up_room(&mut self) -> bool
+        ensures noted { deeds self.new ≡ deeds self.old ++ GaveUp result ∷ [] }
+        ensures rests { rests self.old self.new }
+        ensures others { result ≡ true → (s : S) → LeavesOthers (S.shown s) };
+
+    /// Takes as much of that room again as the disk has.
+    fn renew_room(&mut self)
+        ensures noted { deeds self.new ≡ deeds self.old ++ Renewed ∷ [] }
+        ensures rests { rests self.old self.new };
+
+    // Where nothing was done, all stays.
+    ghost is_same: { (k : Self) → rests k k };
+
+    // What stays twice stays.
+    ghost stays_on: { (a b c : Self) → rests a b → rests b c → rests a c };
 }

@@ -30,6 +30,7 @@ mod obeying;
 mod operator;
 mod outcome;
 mod patience;
+mod peer_store;
 mod pinging;
 mod plain;
 mod progress;

@@ -1,14 +1,14 @@
 //! Reading lines.
 ghost use Rattle.std.specs.Prelude.{◌≡◌, ◌<◌, ◌≤◌, ◌+◌, ◌⊎◌, ◌↔◌, false, IfOk, IfErr, IsTrue, OnOk, vec_capacity};
 ghost use Rattle.std.specs.Prelude.{vec_len};
-ghost use Rattle.engine.specs.Causes.{IsUnreadable, most_reads};
+ghost use Rattle.engine.specs.Causes.{IsUnreadable};
 ghost use Rattle.orders.specs.Order.{longest_copy};
 ghost use Rattle.control.specs.Line as spec;
 
-use histories::Hear;
+use histories::{Failure, Hear};
 use orders::LONGEST_LINE;
 use std::alloc::{AllocError, Global};
-use std::io::{self, ErrorKind};
+use std::io::ErrorKind;
 
 /// The most reads of one line, interrupted ones included.
 const TRIES: u32 = 1_000;
@@ -128,8 +128,9 @@ pub enum Came {
     Late,
 }
 
-/// Reads a reply behind what was read, to its end. Fails with `Io` if a read fails or `u64::MAX` reads are not enough,
-/// and with `Memory` if memory runs out, which a line takes none of that begins with `REPLY_ROOM`.
+/// Reads a reply behind what was read, to its end. Fails with `Io` if a read breaks or is late, after which it reads no
+/// more, or if `u64::MAX` reads are not enough; and with `Memory` if memory runs out, which a line takes none of that
+/// begins with `REPLY_ROOM`.
 pub(crate) fn read_reply<R: Hear>(
     reader: &mut R,
     got: &mut Vec<u8>,
@@ -137,9 +138,8 @@ pub(crate) fn read_reply<R: Hear>(
 ) -> Result<(), ReadError>
     ensures reads { OnOk result (spec.ReadsReply extent
         (R.account reader.old) (R.account reader.new) got.old.items got.new.items) }
-    // Where memory did not run out, a read failed, or all that there are began.
-    ensures cause { IfErr result (λ why. why ≡ ReadError.Io
-        → IsUnreadable most_reads (R.reads reader.old) (R.reads reader.new)) }
+    // It fails with `Io` just if a read broke or was late, or all that there are began or failed.
+    ensures hears { spec.HearsReply false (R.reads reader.old) (R.reads reader.new) result }
     ensures memory { IfErr result (λ why. why ≡ ReadError.Memory
         → spec.LacksRoom extent (vec_capacity got.old) (vec_len got.old)) }
     // Each read but the last gave some bytes or failed.
@@ -166,12 +166,10 @@ pub fn hear_on<R: Hear>(
         spec.ReadsMore (R.account reader.old) (R.account reader.new) got.old.items got.new.items) }
     ensures came { IfOk result (λ came.
         spec.Comes extent came got.new.items (vec_len got.old) (vec_len got.new) (R.account reader.new)) }
-    ensures tried { IfOk result (λ _. spec.HasTried 1 (R.reads reader.old) (R.reads reader.new)) }
-    ensures late { IfOk result (λ came. came ≡ Came.Late
-        → (R.reads reader.old).failed < (R.reads reader.new).failed) }
+    ensures tried { IfOk result (λ _. spec.Tries 1 (R.reads reader.old) (R.reads reader.new)) }
     ensures room { IfOk result (λ _. vec_capacity got.old ≤ vec_capacity got.new) }
-    ensures fails { IfErr result (λ why. why ≡ ReadError.Io
-        → (R.reads reader.old).failed < (R.reads reader.new).failed) }
+    // It was late just if it came to that, and if it broke, it fails with `Io`.
+    ensures fails { spec.FailsAs (R.reads reader.old) (R.reads reader.new) result }
     ensures memory { IfErr result (λ why. why ≡ ReadError.Memory
         → vec_capacity got.old < vec_len got.old + spec.most_read) }
     // A part is some bytes.
@@ -188,9 +186,11 @@ pub fn hear_on<R: Hear>(
             got.extend_from_slice(&chunk[..n])?;
             Ok(came_with(got, extent))
         }
-        Err(e) if e.kind() == ErrorKind::Interrupted => Ok(Came::Interrupted),
-        Err(e) if is_late(&e) => Ok(Came::Late),
-        Err(_) => Err(ReadError::Io),
+        Err(e) => match Failure::of(&e) {
+            Failure::Interrupted => Ok(Came::Interrupted),
+            Failure::Late => Ok(Came::Late),
+            Failure::Broken => Err(ReadError::Io),
+        },
     }
 }
 
@@ -208,11 +208,6 @@ fn came_with(bytes: &[u8], extent: Extent) -> Came
         }
         Extent::Stream => Came::Part,
     }
-}
-
-/// Whether a read failed because nothing came in time.
-fn is_late(error: &io::Error) -> bool {
-    matches!(error.kind(), ErrorKind::WouldBlock | ErrorKind::TimedOut)
 }
 
 /// Whether a line ends in these bytes, or would be too long.

@@ -1,26 +1,14 @@
 //! A store that is served, with what has to be said of it.
-ghost use Rattle.std.specs.Prelude.{◌≡◌, None, option_copied, true, Err};
+ghost use Rattle.std.specs.Prelude.{◌≡◌, None};
 ghost use Rattle.std.specs.FinMap as map;
 ghost use Rattle.std.specs.Option.{ForSome};
 ghost use Rattle.control.specs.Metrics.{TellsKept};
-ghost use Rattle.control.specs.Noted.{CountsIf, CountsOrNotes, CountsUnheld, CountsUnmet, NotesFault, noted_line};
-ghost use Rattle.control.specs.Notices.{IsServerLine};
-ghost use Rattle.control.specs.Traffic.{was_found, was_published};
-ghost use Rattle.control.specs.declared.store_call.StoreCall.TheVariants as errand;
-ghost use Rattle.modver.specs.SemanticVersion.{version_text};
-ghost use Rattle.world.specs.Latest.{latest_of};
-ghost use Rattle.world.specs.Registry.{after_group_add, after_key_add, after_key_revoke, after_keys_revoke};
-ghost use Rattle.world.specs.Registry.{after_team_add, group_added, key_added, key_revoked, keys_revoked, team_added};
-ghost use Rattle.world.specs.Standing.{standing};
-ghost use Rattle.world.specs.Store.{Does, DoesWhere, IsRoomFor, Reads};
-ghost use Rattle.world.specs.Versions.{versions_of};
-ghost use Rattle.world.specs.Visible.{paths_seen};
-ghost use Rattle.world.specs.World.{count, heading, place, view, with_entry};
+ghost use Rattle.control.specs.Noted.{noted_line};
+ghost use Rattle.control.specs.Notices.{IsLineAbout, IsOfFault};
 
 use crate::health::Metrics;
-use crate::notice::{Noted, met};
-use crate::store_call::StoreCall;
-use crate::traffic::{Traffic, Transfer};
+use crate::notice::Noted;
+use crate::traffic::Traffic;
 use interleave::between::CopyProgress;
 use keyring::Keyring;
 use modpath::ModulePath;
@@ -47,13 +35,12 @@ impl Loan for Brand {
     ghost name = { 0 };
 }
 
-/// A store that is lent, and what is noted of the last fault that it met for a request. It answers as the store inside
-/// does, and counts the publishes and fetches of each shelf.
+/// A store that is lent, with what is noted of the last fault that it met for a peer, and the publishes and fetches of
+/// each shelf. It does as the store inside does: `PeerStore`, which peers are answered from, notes and counts.
 #[derive(Drop)]
 pub(crate) struct MonitoredStore<'a, N: Loan, S: Shelves> {
-    alloc: Global,
     pub(crate) inner: &'a mut S,
-    notice: Option<Noted>,
+    pub(crate) notice: Option<Noted>,
     pub(crate) traffic: Traffic,
     /// When the last copy was made, if one was and the time could be read then.
     pub(crate) copied: Option<TimeText>,
@@ -61,7 +48,7 @@ pub(crate) struct MonitoredStore<'a, N: Loan, S: Shelves> {
     pub(crate) is_held: bool,
     loan: PhantomData<N>,
     ghost same: { inner.ghost_name ≡ N.name },
-    ghost of_server: { ForSome notice (λ noted. IsServerLine (noted_line noted)) },
+    ghost of_fault: { ForSome notice (λ noted. IsLineAbout IsOfFault (noted_line noted)) },
 }
 
 impl<'a, N: Loan, S: Shelves> MonitoredStore<'a, N, S> {
@@ -75,7 +62,6 @@ impl<'a, N: Loan, S: Shelves> MonitoredStore<'a, N, S> {
         ensures unnoted { result.notice ≡ None }
     {
         MonitoredStore {
-            alloc,
             inner,
             notice: None,
             traffic: Traffic::new(alloc),
@@ -97,21 +83,11 @@ impl<'a, N: Loan, S: Shelves> MonitoredStore<'a, N, S> {
     pub(crate) fn take(&mut self) -> Option<Noted>
         ensures same { self.new.inner ≡ self.old.inner }
         ensures counts { self.new.traffic ≡ self.old.traffic }
+        ensures held { self.new.is_held ≡ self.old.is_held }
         ensures value { result ≡ self.old.notice }
         ensures forgets { self.new.notice ≡ None }
     {
         self.notice.take()
-    }
-
-    /// Notes the fault of a call, if it met one.
-    fn note_fault<T>(&mut self, errand: &StoreCall, told: &Result<T, StoreFault>)
-        ensures same { self.new.inner ≡ self.old.inner }
-        ensures counts { self.new.traffic ≡ self.old.traffic }
-        ensures noted { NotesFault errand.now told.now self.old.notice self.new.notice }
-    {
-        if let Err(fault) = told {
-            self.notice = Some(met(self.alloc, errand, *fault));
-        }
     }
 
     /// Notes when a copy was made, if the time could be read.
@@ -139,40 +115,6 @@ impl<'a, N: Loan, S: Shelves> MonitoredStore<'a, N, S> {
             traffic: Some(&self.traffic),
         }
     }
-
-    /// Counts one transfer of a shelf. If memory runs out for the counts of the shelf, that is noted.
-    fn count_one(&mut self, shelf: &str, transfer: Transfer)
-        ensures same { self.new.inner ≡ self.old.inner }
-        ensures counts { CountsOrNotes transfer shelf.now self.old.traffic self.new.traffic
-            self.old.notice self.new.notice }
-    {
-        match self.traffic.count(self.alloc, shelf, transfer) {
-            Ok(()) => {}
-            Err(why) => self.notice = Some(Err(why)),
-        }
-    }
-
-    /// Counts a fetch of a shelf if its zip was found.
-    fn count_fetch(&mut self, shelf: &str, told: &Result<Option<Seen>, StoreFault>)
-        ensures same { self.new.inner ≡ self.old.inner }
-        ensures counts { CountsIf (was_found told.now) Transfer.Fetch shelf.now self.old.traffic self.new.traffic
-            self.old.notice self.new.notice }
-    {
-        if let Ok(Some(_)) = told {
-            self.count_one(shelf, Transfer::Fetch);
-        }
-    }
-
-    /// Counts a publish to a shelf if the store kept it.
-    fn count_publish(&mut self, shelf: &str, told: &Result<(), StoreFault>)
-        ensures same { self.new.inner ≡ self.old.inner }
-        ensures counts { CountsIf (was_published told.now) Transfer.Publish shelf.now
-            self.old.traffic self.new.traffic self.old.notice self.new.notice }
-    {
-        if let Ok(()) = told {
-            self.count_one(shelf, Transfer::Publish);
-        }
-    }
 }
 
 impl<'a, N: Loan, S: Shelves> Shelves for MonitoredStore<'a, N, S> {
@@ -182,15 +124,8 @@ impl<'a, N: Loan, S: Shelves> Shelves for MonitoredStore<'a, N, S> {
         self.inner.failures()
     }
 
-    fn key(&mut self, key: &str) -> Result<Option<Holder>, StoreFault>
-        ensures reads { Reads (S.shown self.old.inner.now) (S.shown self.new.inner.now) result
-            (λ w. map.get w.keys key.now) }
-        ensures counts { self.new.traffic ≡ self.old.traffic }
-        ensures noted { NotesFault errand.Key result self.old.notice self.new.notice }
-    {
-        let told = self.inner.key(key);
-        self.note_fault(&StoreCall::Key, &told);
-        told
+    fn key(&mut self, key: &str) -> Result<Option<Holder>, StoreFault> {
+        self.inner.key(key)
     }
 
     fn entry(
@@ -198,16 +133,8 @@ impl<'a, N: Loan, S: Shelves> Shelves for MonitoredStore<'a, N, S> {
         shelf: &str,
         path: &ModulePath,
         version: &Version,
-    ) -> Result<Option<Seen>, StoreFault>
-        ensures reads { Reads (S.shown self.old.inner.now) (S.shown self.new.inner.now) result
-            (λ w. view w shelf.now path.now (version_text version.now)) }
-        ensures counts { CountsUnmet (was_found result) (errand.FetchVersion path.entry version.entry) result
-            Transfer.Fetch shelf.now self.old.traffic self.new.traffic self.old.notice self.new.notice }
-    {
-        let told = self.inner.entry(shelf, path, version);
-        self.note_fault(&StoreCall::FetchVersion { path, version }, &told);
-        self.count_fetch(shelf, &told);
-        told
+    ) -> Result<Option<Seen>, StoreFault> {
+        self.inner.entry(shelf, path, version)
     }
 
     fn heading(
@@ -215,16 +142,8 @@ impl<'a, N: Loan, S: Shelves> Shelves for MonitoredStore<'a, N, S> {
         shelf: &str,
         path: &ModulePath,
         version: &Version,
-    ) -> Result<Option<Heading>, StoreFault>
-        ensures reads { Reads (S.shown self.old.inner.now) (S.shown self.new.inner.now) result
-            (λ w. heading w shelf.now path.now (version_text version.now)) }
-        ensures counts { self.new.traffic ≡ self.old.traffic }
-        ensures noted { NotesFault (errand.FetchVersion path.entry version.entry) result
-            self.old.notice self.new.notice }
-    {
-        let told = self.inner.heading(shelf, path, version);
-        self.note_fault(&StoreCall::FetchVersion { path, version }, &told);
-        told
+    ) -> Result<Option<Heading>, StoreFault> {
+        self.inner.heading(shelf, path, version)
     }
 
     fn compare(
@@ -233,60 +152,24 @@ impl<'a, N: Loan, S: Shelves> Shelves for MonitoredStore<'a, N, S> {
         path: &ModulePath,
         version: &Version,
         entry: &EntryRef,
-    ) -> Result<Standing, StoreFault>
-        ensures reads { Reads (S.shown self.old.inner.now) (S.shown self.new.inner.now) result
-            (λ w. standing w shelf.now path.now (version_text version.now) entry.now) }
-        ensures counts { self.new.traffic ≡ self.old.traffic }
-        ensures noted { NotesFault (errand.PublishVersion path.entry version.entry) result
-            self.old.notice self.new.notice }
-    {
-        let told = self.inner.compare(shelf, path, version, entry);
-        self.note_fault(&StoreCall::PublishVersion { path, version }, &told);
-        told
+    ) -> Result<Standing, StoreFault> {
+        self.inner.compare(shelf, path, version, entry)
     }
 
-    fn versions(&mut self, shelf: &str, path: &ModulePath) -> Result<Versions, StoreFault>
-        ensures reads { Reads (S.shown self.old.inner.now) (S.shown self.new.inner.now) result
-            (λ w. versions_of w shelf.now path.now) }
-        ensures counts { self.new.traffic ≡ self.old.traffic }
-        ensures noted { NotesFault (errand.Fetch path.entry) result self.old.notice self.new.notice }
-    {
-        let told = self.inner.versions(shelf, path);
-        self.note_fault(&StoreCall::Fetch { path }, &told);
-        told
+    fn versions(&mut self, shelf: &str, path: &ModulePath) -> Result<Versions, StoreFault> {
+        self.inner.versions(shelf, path)
     }
 
-    fn latest(&mut self, shelf: &str, path: &ModulePath) -> Result<Option<Version>, StoreFault>
-        ensures reads { Reads (S.shown self.old.inner.now) (S.shown self.new.inner.now) result
-            (λ w. latest_of w shelf.now path.now) }
-        ensures counts { self.new.traffic ≡ self.old.traffic }
-        ensures noted { NotesFault (errand.Fetch path.entry) result self.old.notice self.new.notice }
-    {
-        let told = self.inner.latest(shelf, path);
-        self.note_fault(&StoreCall::Fetch { path }, &told);
-        told
+    fn latest(&mut self, shelf: &str, path: &ModulePath) -> Result<Option<Version>, StoreFault> {
+        self.inner.latest(shelf, path)
     }
 
-    fn paths(&mut self, shelf: &str) -> Result<TextSet, StoreFault>
-        ensures reads { Reads (S.shown self.old.inner.now) (S.shown self.new.inner.now) result
-            (λ w. paths_seen w shelf.now) }
-        ensures counts { self.new.traffic ≡ self.old.traffic }
-        ensures noted { NotesFault errand.Modules result self.old.notice self.new.notice }
-    {
-        let told = self.inner.paths(shelf);
-        self.note_fault(&StoreCall::Modules, &told);
-        told
+    fn paths(&mut self, shelf: &str) -> Result<TextSet, StoreFault> {
+        self.inner.paths(shelf)
     }
 
-    fn count(&mut self, shelf: &str, path: &ModulePath) -> Result<u64, StoreFault>
-        ensures reads { Reads (S.shown self.old.inner.now) (S.shown self.new.inner.now) result
-            (λ w. count w shelf.now path.now) }
-        ensures counts { self.new.traffic ≡ self.old.traffic }
-        ensures noted { NotesFault (errand.Publish path.entry) result self.old.notice self.new.notice }
-    {
-        let told = self.inner.count(shelf, path);
-        self.note_fault(&StoreCall::Publish { path }, &told);
-        told
+    fn count(&mut self, shelf: &str, path: &ModulePath) -> Result<u64, StoreFault> {
+        self.inner.count(shelf, path)
     }
 
     fn insert(
@@ -295,74 +178,32 @@ impl<'a, N: Loan, S: Shelves> Shelves for MonitoredStore<'a, N, S> {
         path: &ModulePath,
         version: &Version,
         entry: &EntryRef,
-    ) -> Result<(), StoreFault>
-        ensures does { DoesWhere (λ w. IsRoomFor w (place shelf.now path.now (version_text version.now)) entry.now)
-            (S.shown self.old.inner.now) (S.shown self.new.inner.now) result (λ _. tt)
-            (λ w. with_entry w (place shelf.now path.now (version_text version.now)) entry.now) }
-        ensures counts { CountsUnheld self.old.is_held (errand.PublishVersion path.entry version.entry) result
-            shelf.now self.old.traffic self.new.traffic self.old.notice self.new.notice }
-        // A publish that is held back reaches no store.
-        ensures held { self.old.is_held ≡ true
-            → (result ≡ Err StoreFault.Memory) × (self.new.inner ≡ self.old.inner) }
-    {
-        if self.is_held {
-            // No disk failed, so this is not `Device`.
-            return Err(StoreFault::Memory);
-        }
-        let told = self.inner.insert(shelf, path, version, entry);
-        self.note_fault(&StoreCall::PublishVersion { path, version }, &told);
-        self.count_publish(shelf, &told);
-        told
+    ) -> Result<(), StoreFault> {
+        self.inner.insert(shelf, path, version, entry)
     }
 
-    fn team_add(&mut self, name: &str, group: Option<&str>) -> Result<RegistryReply, StoreFault>
-        ensures does { Does (S.shown self.old.inner.now) (S.shown self.new.inner.now) result
-            (λ w. team_added w name.now (option_copied group.entry))
-            (λ w. after_team_add w name.now (option_copied group.entry)
-            (team_added w name.now (option_copied group.entry))) }
-        ensures counts { self.new.traffic ≡ self.old.traffic }
-        ensures noted { self.new.notice ≡ self.old.notice }
-    {
+    fn team_add(&mut self, name: &str, group: Option<&str>) -> Result<RegistryReply, StoreFault> {
         self.inner.team_add(name, group)
     }
 
-    fn group_add(&mut self, name: &str) -> Result<RegistryReply, StoreFault>
-        ensures does { Does (S.shown self.old.inner.now) (S.shown self.new.inner.now) result
-            (λ w. group_added w name.now)
-            (λ w. after_group_add w name.now (group_added w name.now)) }
-        ensures counts { self.new.traffic ≡ self.old.traffic }
-        ensures noted { self.new.notice ≡ self.old.notice }
-    {
+    fn group_add(&mut self, name: &str) -> Result<RegistryReply, StoreFault> {
         self.inner.group_add(name)
     }
 
-    fn key_add(&mut self, shelf: &str, key: &str, right: Right) -> Result<RegistryReply, StoreFault>
-        ensures does { Does (S.shown self.old.inner.now) (S.shown self.new.inner.now) result
-            (λ w. key_added w shelf.now key.now)
-            (λ w. after_key_add w shelf.now key.now right (key_added w shelf.now key.now)) }
-        ensures counts { self.new.traffic ≡ self.old.traffic }
-        ensures noted { self.new.notice ≡ self.old.notice }
-    {
+    fn key_add(
+        &mut self,
+        shelf: &str,
+        key: &str,
+        right: Right,
+    ) -> Result<RegistryReply, StoreFault> {
         self.inner.key_add(shelf, key, right)
     }
 
-    fn key_revoke(&mut self, key: &str) -> Result<RegistryReply, StoreFault>
-        ensures does { Does (S.shown self.old.inner.now) (S.shown self.new.inner.now) result
-            (λ w. key_revoked w key.now)
-            (λ w. after_key_revoke w key.now (key_revoked w key.now)) }
-        ensures counts { self.new.traffic ≡ self.old.traffic }
-        ensures noted { self.new.notice ≡ self.old.notice }
-    {
+    fn key_revoke(&mut self, key: &str) -> Result<RegistryReply, StoreFault> {
         self.inner.key_revoke(key)
     }
 
-    fn keys_revoke(&mut self, shelf: &str) -> Result<RegistryReply, StoreFault>
-        ensures does { Does (S.shown self.old.inner.now) (S.shown self.new.inner.now) result
-            (λ w. keys_revoked w shelf.now)
-            (λ w. after_keys_revoke w shelf.now (keys_revoked w shelf.now)) }
-        ensures counts { self.new.traffic ≡ self.old.traffic }
-        ensures noted { self.new.notice ≡ self.old.notice }
-    {
+    fn keys_revoke(&mut self, shelf: &str) -> Result<RegistryReply, StoreFault> {
         self.inner.keys_revoke(shelf)
     }
 

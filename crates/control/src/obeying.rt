@@ -20,7 +20,6 @@ use crate::naming::revoke_by_fingerprint;
 use crate::notice::{Noted, answered, catalogued, copied, ordered};
 use crate::outcome::{outcome_of, outcome_of_catalog, outcome_of_copy};
 use crate::pinging::ping;
-use crate::reserve::KnownReserve;
 use crate::tally::Tally;
 use engine::Io;
 use engine::write::write_bytes;
@@ -47,7 +46,7 @@ pub(crate) fn print_for<W: ResetDeadline, S: Shelves, K: CopyOrders<S>>(
 ) -> Done<Result<ControlReply, Io>>
     ensures obeys { (tally : Tally) (got : List ℕ) (came came_new : Account)
         → ReadsLine came came_new got → IsLineOf got (Catalog key.now)
-        → ObeysBy S.shown K.made K.counted K.meanwhile tally copies.old copies.new
+        → ObeysBy S.shown K.made K.counted K.meanwhile K.rests K.deeds tally copies.old copies.new
         shelves.old shelves.new came came_new (W.contents writer.old) (W.contents writer.new)
         result.told result.noted }
     ensures outcome { IfOk result.told IsOutcome }
@@ -98,7 +97,7 @@ pub(crate) fn answer<W: Tell, S: Keyring, K: CopyOrders<S>>(
 ) -> Done<Result<ControlReply, Io>>
     requires { IsAnsweredAtOnce order }
     ensures obeys { (got : List ℕ) (came came_new : Account) → IsOrderIn got order.entry → ReadsLine came came_new got
-        → ObeysBy S.shown K.made K.counted K.meanwhile tally.now copies.old copies.new
+        → ObeysBy S.shown K.made K.counted K.meanwhile K.rests K.deeds tally.now copies.old copies.new
         shelves.old shelves.new came came_new (W.contents writer.old) (W.contents writer.new)
         result.told result.noted }
     ensures figures { IfOk result.told (TellsPing (K.figured copies.old shelves.new) (IsPinged tally.now
@@ -180,7 +179,7 @@ fn handle<S: Keyring, K: CopyOrders<S>>(
 ) -> Done<ControlReply>
     requires { IsAnsweredAtOnce order }
     ensures heeds { (got : List ℕ) → IsOrderIn got order.entry
-        → HandlesBy S.shown K.made K.counted K.meanwhile tally.now copies.old copies.new
+        → HandlesBy S.shown K.made K.counted K.meanwhile K.rests K.deeds tally.now copies.old copies.new
         shelves.old shelves.new got [] result.told result.noted }
     ensures figures { TellsPing (K.figured copies.old shelves.new) (IsPinged tally.now (S.shown shelves.old).failures
         (S.shown shelves.new).failures (K.counted shelves.old shelves.new)) result.told }
@@ -194,16 +193,11 @@ fn handle<S: Keyring, K: CopyOrders<S>>(
         }
         Some(Order::List(listing)) => reply(list(alloc, shelves, listing), None),
         Some(Order::RevokeByFingerprint(fingerprint)) => {
-            let done = revoke_by_fingerprint(
-                alloc,
-                shelves,
-                &mut KnownReserve::new(copies),
-                fingerprint,
-            );
+            let done = revoke_by_fingerprint(alloc, shelves, copies, fingerprint);
             reply_outcome(done.told, done.noted)
         }
         Some(Order::Registry(command)) => {
-            let told = carry_out_in(shelves, &mut KnownReserve::new(copies), &command);
+            let told = carry_out_in(shelves, copies, &command);
             reply_outcome(outcome_of(told), Some(ordered(alloc, &command, told)))
         }
         Some(Order::Catalog(_)) => unreachable!(),

@@ -1,8 +1,9 @@
 //! Operators, who send orders.
-ghost use Rattle.std.specs.Prelude.{◌≡◌, ◌⊎◌, ℕ, List, [], IfOk, IfErr, MatchResult};
+ghost use Rattle.std.specs.Prelude.{◌≡◌, ◌⊎◌, ℕ, List, [], true, IfOk, IfErr, MatchResult};
 ghost use Rattle.std.specs.Io.KnownBytes.{Appends};
 ghost use Rattle.engine.specs.Causes.{FailsWith, IsCausedIn};
 ghost use Rattle.histories.specs.Account.{Account};
+ghost use Rattle.histories.specs.Stopping.{WaitsIf};
 ghost use Rattle.histories.specs.Timing.{KeepsEach, KeepsTime};
 ghost use Rattle.control.specs.Health.{IsPinged};
 ghost use Rattle.control.specs.Hearing.{ObeysBy, WritesSome};
@@ -29,7 +30,6 @@ use orders::{Order, Outcome, read_order};
 use std::alloc::Global;
 use std::io::Write;
 use std::marker::Brand;
-use std::time::Clock;
 use world::registry::StoreFault;
 
 /// An operator after its order was carried out, the result, and what is noted of what was done.
@@ -42,9 +42,10 @@ pub struct Obeyed<O> {
 
 /// An operator who has connected.
 pub trait Operator {
-    ghost use Rattle.std.specs.Prelude.{ℕ, ◌≡◌, List, [], Option, IfOk, IfErr};
+    ghost use Rattle.std.specs.Prelude.{ℕ, ◌≡◌, List, [], Option, true, IfOk, IfErr};
     ghost use Rattle.histories.specs.Account.{Account};
     ghost use Rattle.histories.specs.Calls.{Reads, Writes};
+    ghost use Rattle.histories.specs.Stopping.{WaitsIf};
     ghost use Rattle.histories.specs.Timing.{KeepsTime};
     ghost use Rattle.histories.specs.declared.call.Call.{Call};
     ghost use Rattle.engine.specs.Causes.{IsCausedIn};
@@ -83,17 +84,16 @@ pub trait Operator {
     ///
     /// `Io::Read`: nothing was done, and nothing written. `Io::Write`: a write or the flush failed; a beginning of the
     /// line was written or all of it, and the shelves are as after the order.
-    fn obeyed<C: Clock, S: Keyring, K: CopyOrders<S>>(
+    fn obeyed<S: Keyring, K: CopyOrders<S>>(
         self,
         alloc: Global,
-        clock: &C,
         tally: &Tally,
         shelves: &mut S,
         copies: &mut K,
     ) -> Obeyed<Self>
     where
         Self: Sized,
-        ensures obeys { ObeysBy S.shown K.made K.counted K.meanwhile tally.now copies.old copies.new
+        ensures obeys { ObeysBy S.shown K.made K.counted K.meanwhile K.rests K.deeds tally.now copies.old copies.new
             shelves.old shelves.new (came self) (came result.operator) (written self) (written result.operator)
             result.told result.noted }
         // A ping is told what `copies` knows of the store, and nothing else.
@@ -111,7 +111,9 @@ pub trait Operator {
         // each line of a catalog has its own time. No write began after the writing side was shut.
         ensures reads_in_time { KeepsTime time_for_order (read_calls self) (read_calls result.operator) }
         ensures writes_in_time { WritesInTime (came self) (came result.operator)
-            (write_calls self) (write_calls result.operator) };
+            (write_calls self) (write_calls result.operator) }
+        // No wait of a read was ruled out.
+        ensures waits { WaitsIf true (read_calls self) (read_calls result.operator) };
 }
 
 impl<R: BoundRead + Drop, W: BoundWrite + Drop> Operator for Connection<R, W> {
@@ -128,22 +130,20 @@ impl<R: BoundRead + Drop, W: BoundWrite + Drop> Operator for Connection<R, W> {
     ghost write_calls = { λ o. ⟦<Telling<W> as HasCalls>⟧.calls o.writer };
 
     /// All reads of the line together have 2 seconds, and so have all writes of the outcome.
-    fn obeyed<C: Clock, S: Keyring, K: CopyOrders<S>>(
+    fn obeyed<S: Keyring, K: CopyOrders<S>>(
         self,
         alloc: Global,
-        clock: &C,
         tally: &Tally,
         shelves: &mut S,
         copies: &mut K,
     ) -> Obeyed<Connection<R, W>> {
-        obey_since::<C, Brand, Brand, R, W, S, K>(alloc, clock, self, tally, shelves, copies)
+        obey_since::<Brand, Brand, R, W, S, K>(alloc, self, tally, shelves, copies)
     }
 }
 
 /// Carries out the order of an operator, as `Operator::obeyed` does. All reads of the line together have 2 seconds, and
 /// so have all writes of the outcome.
 fn obey_since<
-    C: Clock,
     I: Start,
     J: Start,
     R: BoundRead + Drop,
@@ -152,7 +152,6 @@ fn obey_since<
     K: CopyOrders<S>,
 >(
     alloc: Global,
-    clock: &C,
     operator: Connection<R, W>,
     tally: &Tally,
     shelves: &mut S,
@@ -160,7 +159,8 @@ fn obey_since<
 ) -> Obeyed<Connection<R, W>>
     requires reads { ⟦<Hearing<R> as HasCalls>⟧.calls operator.reader ≡ I.calls }
     requires writes { ⟦<Telling<W> as HasCalls>⟧.calls operator.writer ≡ J.calls }
-    ensures obeys { ObeysBy S.shown K.made K.counted K.meanwhile tally.now copies.old copies.new
+    requires may_wait { I.may_wait ≡ true }
+    ensures obeys { ObeysBy S.shown K.made K.counted K.meanwhile K.rests K.deeds tally.now copies.old copies.new
         shelves.old shelves.new
         (⟦<Hearing<R> as Hear>⟧.account operator.reader) (⟦<Hearing<R> as Hear>⟧.account result.operator.reader)
         (⟦<Telling<W> as Write>⟧.contents operator.writer) (⟦<Telling<W> as Write>⟧.contents result.operator.writer)
@@ -179,22 +179,21 @@ fn obey_since<
     ensures writes_in_time { WritesInTime
         (⟦<Hearing<R> as Hear>⟧.account operator.reader) (⟦<Hearing<R> as Hear>⟧.account result.operator.reader)
         J.calls (⟦<Telling<W> as HasCalls>⟧.calls result.operator.writer) }
+    ensures waits { WaitsIf true I.calls (⟦<Hearing<R> as HasCalls>⟧.calls result.operator.reader) }
 {
     let Connection { reader, writer } = operator;
-    let mut line: DeadlineReader<'_, C, ForOrder, I, R> = DeadlineReader::new(reader, clock);
+    let mut line: DeadlineReader<ForOrder, I, R> = DeadlineReader::new(reader);
     let got = read_line(alloc, &mut line);
     let reader = line.into_inner();
     let (writer, done) = match got {
-        Ok(got) => answer_since::<C, J, W, S, K>(
-            alloc, clock, writer, &got, tally, shelves, copies,
-        ),
+        Ok(got) => answer_since::<J, W, S, K>(alloc, writer, &got, tally, shelves, copies),
         Err(ReadError::Io) => {
             let told = Err(Io::Read);
             (writer, Done { told, noted: None })
         }
         Err(ReadError::Memory) => {
             let told = ControlReply::Outcome(Outcome::Failed(StoreFault::Memory));
-            let (writer, told) = tell_since::<C, J, W>(clock, writer, told);
+            let (writer, told) = tell_since::<J, W>(writer, told);
             (writer, Done { told, noted: None })
         }
     };
@@ -207,9 +206,8 @@ fn obey_since<
 
 /// Does what a line orders, and writes what came of it. All writes together have 2 seconds; where the line asks for a
 /// catalog, each of its lines has.
-fn answer_since<C: Clock, J: Start, W: BoundWrite + Drop, S: Keyring, K: CopyOrders<S>>(
+fn answer_since<J: Start, W: BoundWrite + Drop, S: Keyring, K: CopyOrders<S>>(
     alloc: Global,
-    clock: &C,
     writer: Telling<W>,
     got: &[u8],
     tally: &Tally,
@@ -218,7 +216,7 @@ fn answer_since<C: Clock, J: Start, W: BoundWrite + Drop, S: Keyring, K: CopyOrd
 ) -> (Telling<W>, Done<Result<ControlReply, Io>>)
     requires { ⟦<Telling<W> as HasCalls>⟧.calls writer ≡ J.calls }
     ensures obeys { (came came_new : Account) → ReadsLine came came_new got.now
-        → ObeysBy S.shown K.made K.counted K.meanwhile tally.now copies.old copies.new
+        → ObeysBy S.shown K.made K.counted K.meanwhile K.rests K.deeds tally.now copies.old copies.new
         shelves.old shelves.new came came_new
         (⟦<Telling<W> as Write>⟧.contents writer) (⟦<Telling<W> as Write>⟧.contents result.0)
         result.1.told result.1.noted }
@@ -235,20 +233,17 @@ fn answer_since<C: Clock, J: Start, W: BoundWrite + Drop, S: Keyring, K: CopyOrd
 {
     let order = read_order(got);
     if let Some(Order::Catalog(key)) = order {
-        let mut output: RollingDeadlineWriter<'_, C, ForOrder, J, W> = RollingDeadlineWriter::new(
-            writer, clock,
-        );
+        let mut output: RollingDeadlineWriter<ForOrder, J, W> = RollingDeadlineWriter::new(writer);
         let told = print_for(alloc, key, &mut output, shelves, copies);
         return (output.into_inner(), told);
     }
-    let mut outcome: DeadlineWriter<'_, C, ForOrder, J, W> = DeadlineWriter::new(writer, clock);
+    let mut outcome: DeadlineWriter<ForOrder, J, W> = DeadlineWriter::new(writer);
     let told = answer(alloc, order, &mut outcome, tally, shelves, copies);
     (outcome.into_inner(), told)
 }
 
 /// Writes what an operator gets, and returns it. All writes together have 2 seconds.
-fn tell_since<C: Clock, J: Start, W: BoundWrite + Drop>(
-    clock: &C,
+fn tell_since<J: Start, W: BoundWrite + Drop>(
     writer: Telling<W>,
     told: ControlReply,
 ) -> (Telling<W>, Result<ControlReply, Io>)
@@ -264,7 +259,7 @@ fn tell_since<C: Clock, J: Start, W: BoundWrite + Drop>(
     ensures flushed { IfOk result.1 (λ _. (⟦<Telling<W> as Tell>⟧.writes result.0).unflushed ≡ []) }
     ensures in_time { KeepsTime time_for_order J.calls (⟦<Telling<W> as HasCalls>⟧.calls result.0) }
 {
-    let mut outcome: DeadlineWriter<'_, C, ForOrder, J, W> = DeadlineWriter::new(writer, clock);
+    let mut outcome: DeadlineWriter<ForOrder, J, W> = DeadlineWriter::new(writer);
     let told = tell(&mut outcome, told);
     (outcome.into_inner(), told)
 }

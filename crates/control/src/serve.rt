@@ -4,33 +4,36 @@ ghost use Rattle.socket.specs.Connections.{both};
 ghost use Rattle.socket.specs.History.{Door, Takes};
 ghost use Rattle.control.specs.Notices.{WritesNotices};
 ghost use Rattle.control.specs.Progress.{IsGoing, IsOver};
+ghost use Rattle.control.specs.Reserve.{lent};
 ghost use Rattle.control.specs.Serving.{Serves};
 ghost use Rattle.control.specs.Tasks.{GoesOn};
 ghost use Rattle.control.specs.Traces.{TracesEach};
+ghost use Rattle.control.specs.Uses.{UsesEach};
 ghost use Rattle.control.specs.Visits.{EndsEach, ReadsEach, ServesEach};
 ghost use Rattle.socket.specs.declared.callers.Caller.{Caller};
 ghost use Rattle.socket.specs.declared.callers.Caller.TheVariants.{Operator};
+ghost use Rattle.socket.specs.declared.deed.Search.TheVariants.{Waiting};
 
 use crate::copies::Copies;
 use crate::monitored_store::{Loan, MonitoredStore};
 use crate::obeying::note_told;
 use crate::operator::Operator;
+use crate::reserve::Reserve;
 use crate::serving::{Server, is_stopping};
 use crate::wall_clock::WallClock;
-use histories::Tell;
+use histories::{ClockFace, Tell};
 use keyring::Keyring;
 use modver::TimeText;
 use socket::{Caller, Callers, Peer};
 use std::alloc::Global;
 use std::marker::Brand;
-use std::time::Clock;
 use world::shelves::Shelves;
 
 /// Takes `connections` connections of peers, one after another, and answers the first message on each. Between them it
-/// carries out the orders of operators, who do not count; `copies` makes their copies, and `calendar` shows when each
-/// was made. While a copy is made, those who connect are served. A ping gets the counts of the connections since the
-/// server began, which was at `since`. It waits for the next caller as long as that takes. It returns after the last
-/// peer, or once `Stopping` was written to an operator.
+/// carries out the orders of operators, who do not count; `copies` makes their copies, `calendar` shows when each was
+/// made, and `reserve` keeps room for them. While a copy is made, those who connect are served. A ping gets the counts
+/// of the connections since the server began, which was at `since`. It waits for the next caller as long as that takes.
+/// It returns after the last peer, or once `Stopping` was written to an operator.
 ///
 /// What came of each order, and which faults the store met, is written to `errors`; if that fails, nothing else
 /// changes.
@@ -38,12 +41,13 @@ use world::shelves::Shelves;
 /// A connection counts even if it fails. One that can't be taken counts too, even an operator's, so a server without
 /// descriptors ends.
 pub fn serve_both<
-    C: Clock,
+    C: ClockFace,
     P: Peer + Drop,
     O: Operator + Drop,
     L: Callers<P, O>,
     S: Keyring,
     K: Copies<S>,
+    V: Reserve<S>,
     D: WallClock + Drop,
     E: Tell,
 >(
@@ -52,6 +56,7 @@ pub fn serve_both<
     callers: &mut L,
     shelves: &mut S,
     copies: &K,
+    reserve: &mut V,
     calendar: D,
     since: TimeText,
     connections: u32,
@@ -60,39 +65,49 @@ pub fn serve_both<
     // One run of the machine: its events are the messages, at most one on each connection, and the registry commands.
     ensures goes { GoesOn (S.shown shelves.old) (S.shown shelves.new) connections }
     // Each message is answered on the connection that it came over, and the outcome of each order is told on its own.
-    // If none is, or it is not written whole, a call of that connection failed. Each connection that was taken is ended
-    // as it was left.
+    // If none is, or it is not written whole, a call of that connection failed. Each caller who was taken is left, a
+    // peer with the status of its reply if that was written whole, and its connection is ended by that.
     ensures each { ServesEach (both O.came O.reads) (both O.written O.writes)
-        (both P.came P.reads) (both P.written P.writes) L.is_new
+        (both P.came P.reads) (both P.written P.writes) L.known
         (both L.waiting L.history callers.old) (both L.waiting L.history callers.new)
         (S.shown shelves.old) (S.shown shelves.new) connections }
     // Each copy is made of the machine's world at its moment, between two of its events. Each ping is told the versions
     // that were counted so, and the counts of the connections that were taken before it.
     ensures reads { ReadsEach (both O.came O.reads) (both O.written O.writes)
-        (both P.came P.reads) (both P.written P.writes) S.shown K.made K.counted L.is_new
+        (both P.came P.reads) (both P.written P.writes) S.shown K.made K.counted L.known
         (both L.waiting L.history callers.old) (both L.waiting L.history callers.new)
         shelves.old shelves.new since connections }
     // It ends once an operator was told so, and not before, unless its connections are used up.
     ensures ends { EndsEach (both O.came O.reads) (both O.written O.writes)
-        (both P.came P.reads) (both P.written P.writes) S.shown K.made K.counted L.is_new
+        (both P.came P.reads) (both P.written P.writes) S.shown K.made K.counted L.known
         (both L.waiting L.history callers.old) (both L.waiting L.history callers.new)
         shelves.old shelves.new since connections }
     // Only notices are written to `errors`.
     ensures notes { WritesNotices (E.contents errors.old) (E.contents errors.new) }
-    // Each order has a line of its own there, that of its notice or one which says that memory ran out for it, and no
-    // other line is about an order, unless a write or a flush failed.
+    // The lines are those of the callers, one after another: for each order one of its own, that of its notice or one
+    // which says that memory ran out for it, and for each peer at most one of a fault, which was not told in the minute
+    // before. Each caller has at most one on the room for orders. They are whole, unless a write or a flush failed.
     ensures traces { TracesEach (both O.came O.reads) (both O.written O.writes)
-        (both P.came P.reads) (both P.written P.writes) S.shown K.made K.counted L.is_new
+        (both P.came P.reads) (both P.written P.writes) S.shown K.made K.counted L.known
         (both L.waiting L.history callers.old) (both L.waiting L.history callers.new)
         shelves.old shelves.new since connections
         (both E.contents E.writes errors.old) (both E.contents E.writes errors.new) }
+    // A registry command that the disk refused is tried again with the room that is kept for that, if there is some,
+    // which is then taken again. No other order, and nothing else that is done, gives it up.
+    ensures uses { UsesEach (both O.came O.reads) (both O.written O.writes)
+        (both P.came P.reads) (both P.written P.writes) S.shown K.made K.counted L.known
+        (both L.waiting L.history callers.old) (both L.waiting L.history callers.new)
+        shelves.old shelves.new since connections
+        (both E.contents E.writes errors.old) (both E.contents E.writes errors.new)
+        (V.deeds reserve.old) (V.deeds reserve.new) }
 {
-    let _lent = serve_lent::<C, P, O, L, S, K, D, E, Brand>(
+    let _lent = serve_lent::<C, P, O, L, S, K, V, D, E, Brand>(
         alloc,
         clock,
         callers,
         shelves,
         copies,
+        reserve,
         calendar,
         since,
         connections,
@@ -102,21 +117,23 @@ pub fn serve_both<
 
 /// What was lent to a server.
 #[derive(Drop)]
-struct Lent<'a, L, S, E> {
+struct Lent<'a, L, S, E, V> {
     callers: &'a mut L,
     shelves: &'a mut S,
     errors: &'a mut E,
+    reserve: &'a mut V,
 }
 
 /// Serves as `serve_both` does, and returns the loans.
 fn serve_lent<
     'a,
-    C: Clock,
+    C: ClockFace,
     P: Peer + Drop,
     O: Operator + Drop,
     L: Callers<P, O>,
     S: Keyring,
     K: Copies<S>,
+    V: Reserve<S>,
     D: WallClock + Drop,
     E: Tell,
     N: Loan,
@@ -126,40 +143,49 @@ fn serve_lent<
     callers: &'a mut L,
     shelves: &'a mut S,
     copies: &'a K,
+    reserve: &'a mut V,
     calendar: D,
     since: TimeText,
     connections: u32,
     errors: &'a mut E,
-) -> Lent<'a, L, S, E>
+) -> Lent<'a, L, S, E, V>
     requires { shelves.ghost_name ≡ N.name }
     ensures same { result.shelves.ghost_name ≡ shelves.entry.ghost_name }
     ensures same_callers { result.callers.ghost_name ≡ callers.entry.ghost_name }
     ensures same_errors { result.errors.ghost_name ≡ errors.entry.ghost_name }
+    ensures same_reserve { result.reserve.ghost_name ≡ reserve.entry.ghost_name }
     ensures goes { GoesOn (S.shown shelves.old) (S.shown result.shelves.now) connections }
     ensures each { ServesEach (both O.came O.reads) (both O.written O.writes)
-        (both P.came P.reads) (both P.written P.writes) L.is_new
+        (both P.came P.reads) (both P.written P.writes) L.known
         (both L.waiting L.history callers.old) (both L.waiting L.history result.callers.now)
         (S.shown shelves.old) (S.shown result.shelves.now) connections }
     ensures reads { ReadsEach (both O.came O.reads) (both O.written O.writes)
-        (both P.came P.reads) (both P.written P.writes) S.shown K.made K.counted L.is_new
+        (both P.came P.reads) (both P.written P.writes) S.shown K.made K.counted L.known
         (both L.waiting L.history callers.old) (both L.waiting L.history result.callers.now)
         shelves.old result.shelves.now since connections }
     ensures ends { EndsEach (both O.came O.reads) (both O.written O.writes)
-        (both P.came P.reads) (both P.written P.writes) S.shown K.made K.counted L.is_new
+        (both P.came P.reads) (both P.written P.writes) S.shown K.made K.counted L.known
         (both L.waiting L.history callers.old) (both L.waiting L.history result.callers.now)
         shelves.old result.shelves.now since connections }
     ensures notes { WritesNotices (E.contents errors.old) (E.contents result.errors.now) }
     ensures traces { TracesEach (both O.came O.reads) (both O.written O.writes)
-        (both P.came P.reads) (both P.written P.writes) S.shown K.made K.counted L.is_new
+        (both P.came P.reads) (both P.written P.writes) S.shown K.made K.counted L.known
         (both L.waiting L.history callers.old) (both L.waiting L.history result.callers.now)
         shelves.old result.shelves.now since connections
         (both E.contents E.writes errors.old) (both E.contents E.writes result.errors.now) }
+    ensures uses { UsesEach (both O.came O.reads) (both O.written O.writes)
+        (both P.came P.reads) (both P.written P.writes) S.shown K.made K.counted L.known
+        (both L.waiting L.history callers.old) (both L.waiting L.history result.callers.now)
+        shelves.old result.shelves.now since connections
+        (both E.contents E.writes errors.old) (both E.contents E.writes result.errors.now)
+        (V.deeds reserve.old) (V.deeds result.reserve.now) }
 {
     let mut server = Server::new(
         alloc,
         clock,
         callers,
         copies,
+        reserve,
         calendar,
         errors,
         since,
@@ -167,35 +193,40 @@ fn serve_lent<
     );
     let mut watched: MonitoredStore<'a, N, S> = MonitoredStore::new(alloc, shelves);
     server.serve_each(&mut watched);
-    let (callers, errors) = server.into_parts();
+    let (callers, errors, reserve) = server.into_parts();
     Lent {
         callers,
         shelves: watched.into_inner(),
         errors,
+        reserve,
     }
 }
 
 /// What a server does from its first caller to its last.
 impl<
     'x,
-    C: Clock,
+    C: ClockFace,
     P: Peer + Drop,
     O: Operator + Drop,
     L: Callers<P, O>,
     K,
+    V,
     D: WallClock + Drop,
     E: Tell,
-> Server<'x, C, P, O, L, K, D, E> {
+> Server<'x, C, P, O, L, K, V, D, E> {
     /// Serves callers, one after another, until no more are to be taken.
     fn serve_each<N: Loan, S: Keyring>(&mut self, watched: &mut MonitoredStore<'_, N, S>)
     where
         K: Copies<S>,
+        V: Reserve<S>,
         requires { self.old.progress.taken ≡ 0 }
         ensures serves { Serves (both O.came O.reads) (both O.written O.writes)
-            (both P.came P.reads) (both P.written P.writes) L.is_new S.shown K.made K.counted false
+            (both P.came P.reads) (both P.written P.writes) L.known S.shown K.made K.counted false
             (both L.waiting L.history self.old.callers.now) (both L.waiting L.history self.new.callers.now)
-            self.old.progress self.new.progress (both E.contents E.writes self.old.errors.now)
-            (both E.contents E.writes self.new.errors.now) watched.old.inner.now watched.new.inner.now }
+            self.old.progress self.new.progress (both E.contents E.writes self.old.errors.now, self.old.faults)
+            (both E.contents E.writes self.new.errors.now, self.new.faults)
+            (lent V.deeds self.old.reserve) (lent V.deeds self.new.reserve)
+            watched.old.inner.now watched.new.inner.now }
         ensures over { IsOver self.new.progress.stops self.new.progress.left self.new.progress.taken }
         ensures same { self.new.callers.ghost_name ≡ self.old.callers.ghost_name }
         ensures same_errors { self.new.errors.ghost_name ≡ self.old.errors.ghost_name }
@@ -218,14 +249,17 @@ impl<
     fn obey_on<N: Loan, S: Keyring>(&mut self, operator: O, watched: &mut MonitoredStore<'_, N, S>)
     where
         K: Copies<S>,
+        V: Reserve<S>,
         requires { IsGoing self.old.progress.stops self.old.progress.left self.old.progress.taken }
         ensures serves { (door : Door (Caller P O))
-            → Takes door (both L.waiting L.history self.old.callers.now) (Operator operator)
-            → L.is_new (Operator operator)
+            → Takes Waiting door (both L.waiting L.history self.old.callers.now) (Operator operator)
+            → L.known.is_new (Operator operator)
             → Serves (both O.came O.reads) (both O.written O.writes)
-            (both P.came P.reads) (both P.written P.writes) L.is_new S.shown K.made K.counted false
+            (both P.came P.reads) (both P.written P.writes) L.known S.shown K.made K.counted false
             door (both L.waiting L.history self.new.callers.now) self.old.progress self.new.progress
-            (both E.contents E.writes self.old.errors.now) (both E.contents E.writes self.new.errors.now)
+            (both E.contents E.writes self.old.errors.now, self.old.faults)
+            (both E.contents E.writes self.new.errors.now, self.new.faults)
+            (lent V.deeds self.old.reserve) (lent V.deeds self.new.reserve)
             watched.old.inner.now watched.new.inner.now }
         ensures taken { self.old.progress.taken + 1 ≤ self.new.progress.taken }
         ensures same { self.new.callers.ghost_name ≡ self.old.callers.ghost_name }
@@ -233,8 +267,8 @@ impl<
         ensures notes { WritesNotices (E.contents self.old.errors.now) (E.contents self.new.errors.now) }
     {
         self.progress.count_operator();
-        let (alloc, clock, tally) = (self.alloc, self.clock, self.progress.tally);
-        let after = operator.obeyed(alloc, clock, &tally, watched, self);
+        let (alloc, tally) = (self.alloc, self.progress.tally);
+        let after = operator.obeyed(alloc, &tally, watched, self);
         let noted = note_told(alloc, after.noted, &after.told);
         self.progress.end_if(is_stopping(after.told));
         self.tell(noted);

@@ -9,9 +9,8 @@ use crate::faults::RecentFaults;
 use crate::monitored_store::{Loan, MonitoredStore};
 use crate::notice::Noted;
 use engine::write::write_bytes;
-use histories::Tell;
+use histories::{ClockFace, Tell};
 use std::alloc::Global;
-use std::time::{Clock, Instant};
 use world::shelves::Shelves;
 
 /// The line that says that memory ran out for another, or for the counts of a shelf.
@@ -41,7 +40,7 @@ pub(crate) fn tell_if<E: Tell>(noted: Option<Noted>, errors: &mut E)
 }
 
 /// Writes what a store noted, if it did, and the store forgets it. The same is written once a minute at most.
-pub(crate) fn tell_next<C: Clock, N: Loan, S: Shelves, E: Tell>(
+pub(crate) fn tell_next<C: ClockFace, N: Loan, S: Shelves, E: Tell>(
     alloc: Global,
     clock: &C,
     watched: &mut MonitoredStore<'_, N, S>,
@@ -49,6 +48,8 @@ pub(crate) fn tell_next<C: Clock, N: Loan, S: Shelves, E: Tell>(
     errors: &mut E,
 )
     ensures same { watched.new.inner ≡ watched.old.inner }
+    ensures counts { watched.new.traffic ≡ watched.old.traffic }
+    ensures held { watched.new.is_held ≡ watched.old.is_held }
     ensures forgets { watched.new.notice ≡ None }
     ensures notes { WritesNotices (E.contents errors.old) (E.contents errors.new) }
     ensures tells { WritesLines (AreUnheld faults.old faults.new watched.old.notice)
@@ -57,7 +58,7 @@ pub(crate) fn tell_next<C: Clock, N: Loan, S: Shelves, E: Tell>(
     let Some(noted) = watched.take() else {
         return;
     };
-    let now = Instant::now(clock).ok();
+    let now = clock.now().ok();
     if !faults.admits(alloc, now, noted_line(&noted)) {
         return;
     }

@@ -1,27 +1,35 @@
 //! A turn between two slices of a copy, or two lines of a catalog: those who wait are served.
-ghost use Rattle.std.specs.Prelude.{◌≡◌, ◌⊎◌, IfOk, IsErrOf, OnOk, true, false};
+ghost use Rattle.std.specs.Prelude.{◌≡◌, ◌⊎◌, IfErr, IfOk, IsErrOf, OnOk, true, false};
+ghost use Rattle.engine.specs.Causes.{IsCausedIn};
 ghost use Rattle.socket.specs.Connections.{both};
 ghost use Rattle.socket.specs.History.{Door, TakesNext};
 ghost use Rattle.interleave.specs.Interleave.{Notes};
 ghost use Rattle.interleave.specs.Noted.{IsNoted, with_said};
 ghost use Rattle.world.specs.Store.{HasCause};
 ghost use Rattle.world.specs.World.{World};
-ghost use Rattle.control.specs.Copying.{IsBegun, IsOnlyRead};
+ghost use Rattle.control.specs.Copying.{IsOnlyRead};
+ghost use Rattle.control.specs.Health.{IsPinged};
+ghost use Rattle.control.specs.Hearing.{ObeysBy};
+ghost use Rattle.control.specs.Line.{most_tries};
 ghost use Rattle.control.specs.Metrics.{NotesTime};
 ghost use Rattle.control.specs.Notices.{WritesNotices};
+ghost use Rattle.control.specs.Pinging.{TellsPing};
 ghost use Rattle.control.specs.Progress.{IsGoing};
+ghost use Rattle.control.specs.Reserve.{lent};
 ghost use Rattle.control.specs.Serving.{ObeysMeanwhile, Serves};
 ghost use Rattle.socket.specs.declared.callers.Caller.{Caller};
+ghost use Rattle.socket.specs.declared.deed.Search.TheVariants.{AtOnce};
 
 use crate::copies::{CatalogRefusal, Copies, CopyOrders, CopyRefusal};
 use crate::health::Metrics;
 use crate::monitored_store::{Loan, MonitoredStore};
 use crate::obeying::note_told;
-use crate::operator::Operator;
-use crate::reserve::{KeepsRoom, Room};
+use crate::operator::{Obeyed, Operator};
+use crate::reserve::Reserve;
 use crate::serving::{Server, is_stopping};
+use crate::tally::Tally;
 use crate::wall_clock::WallClock;
-use histories::{ResetDeadline, Tell};
+use histories::{ClockFace, ResetDeadline, Tell};
 use interleave::between::{Between, CopyProgress, TurnEnd};
 use interleave::insert_tracker::{InsertTracker, Moment};
 use interleave::newcomers::Newcomers;
@@ -29,7 +37,6 @@ use keyring::Keyring;
 use socket::{Caller, Callers, Peer};
 use std::alloc::Global;
 use std::marker::Brand;
-use std::time::Clock;
 use std::{io, mem};
 use world::registry::StoreFault;
 use world::shelves::Shelves;
@@ -39,16 +46,19 @@ const MOST_SERVED: u32 = 16;
 
 /// What an operator finds who orders something while a copy is made or a catalog is printed.
 #[derive(Drop)]
-struct BusyCopies<'b, K> {
+struct BusyCopies<'b, K, V> {
     copies: &'b K,
+    /// The reserve of the server.
+    reserve: &'b mut V,
     /// How far that one is, unless it is a catalog that is printed.
     how_far: Option<CopyProgress>,
 }
 
-impl<'a, 'b, 'c, N: Loan, M: Moment, S: Shelves, K: Copies<S>> CopyOrders<
+impl<'a, 'b, 'c, N: Loan, M: Moment, S: Shelves, K: Copies<S>, V: Reserve<S>> CopyOrders<
     MonitoredStore<'a, N, InsertTracker<'c, M, S>>,
-> for BusyCopies<'b, K> {
-    ghost use Rattle.std.specs.Prelude.{Some};
+> for BusyCopies<'b, K, V> {
+    ghost use Rattle.std.specs.Prelude.{◌≡◌, Some};
+    ghost use Rattle.std.proofs.Common.{◌∙◌, refl};
     ghost use Rattle.interleave.specs.Noted.{IsNoted, with_said};
     ghost use Rattle.control.specs.Copying.{IsBusy, IsOnlyRead};
     ghost use Rattle.control.specs.Metrics.{TellsKept};
@@ -61,11 +71,16 @@ impl<'a, 'b, 'c, N: Loan, M: Moment, S: Shelves, K: Copies<S>> CopyOrders<
     ghost figured = { λ b w f. TellsKept (K.figured w.inner.now.inner.now) w.traffic w.copied b.how_far f };
 
     /// The store is only read, and nothing is made of it, since that which is being made is not over.
-    ghost meanwhile = { λ _ _ old new making. IsOnlyRead
+    ghost meanwhile = { λ b c old new making. (c ≡ b) × IsOnlyRead
         (with_said (S.shown old.inner.now.inner.now)
         (IsNoted old.inner.now.lost M.was M.before old.inner.now.news))
         (with_said (S.shown new.inner.now.inner.now)
         (IsNoted new.inner.now.lost M.was M.before new.inner.now.news)) × IsBusy making };
+
+    ghost deeds = { λ b. V.deeds b.reserve.now };
+
+    /// The reserve is the same one.
+    ghost rests = { λ b c. c.reserve.ghost_name ≡ b.reserve.ghost_name };
 
     /// Makes no copy, and fails with `Busy`.
     fn copy_to(
@@ -101,15 +116,17 @@ impl<'a, 'b, 'c, N: Loan, M: Moment, S: Shelves, K: Copies<S>> CopyOrders<
         shelves.figures_with(figures_in(self.copies, shelves.inner), self.how_far)
     }
 
-    fn give_up_room(&self) -> bool {
-        <K as Copies<S>>::give_up_room(self.copies)
+    fn give_up_room(&mut self) -> bool {
+        <V as Reserve<S>>::give_up_room(self.reserve)
     }
-}
 
-impl<'b, K: KeepsRoom> KeepsRoom for BusyCopies<'b, K> {
-    fn keep_room(&self) -> Room {
-        self.copies.keep_room()
+    fn renew_room(&mut self) {
+        self.reserve.keep_room();
     }
+
+    ghost is_same = { λ b. refl };
+
+    ghost stays_on = { λ a b c one two. two ∙ one };
 }
 
 /// Returns how many versions the store keeps. Fails as `Copies::versions` does.
@@ -138,6 +155,57 @@ fn figures_in<'s, M: Moment, S: Shelves, K: Copies<S>>(
     copies.figures(noting.inner)
 }
 
+/// Carries out the order of an operator who came while a copy is made, as `Operator::obeyed` does, and returns what it
+/// found, with the same reserve.
+fn obey_with<
+    'a,
+    'b,
+    'c,
+    O: Operator + Drop,
+    N: Loan,
+    M: Moment,
+    S: Keyring,
+    K: Copies<S>,
+    V: Reserve<S>,
+>(
+    alloc: Global,
+    operator: O,
+    tally: &Tally,
+    watched: &mut MonitoredStore<'a, N, InsertTracker<'c, M, S>>,
+    copies: &'b K,
+    how_far: Option<CopyProgress>,
+    reserve: &'b mut V,
+) -> (Obeyed<O>, BusyCopies<'b, K, V>)
+    ensures same { result.1.reserve.ghost_name ≡ reserve.entry.ghost_name }
+    ensures obeys { ObeysBy ⟦<MonitoredStore<'a, N, InsertTracker<'c, M, S>> as Shelves>⟧.shown
+        ⟦<BusyCopies<'b, K, V> as CopyOrders<MonitoredStore<'a, N, InsertTracker<'c, M, S>>>>⟧.made
+        ⟦<BusyCopies<'b, K, V> as CopyOrders<MonitoredStore<'a, N, InsertTracker<'c, M, S>>>>⟧.counted
+        ⟦<BusyCopies<'b, K, V> as CopyOrders<MonitoredStore<'a, N, InsertTracker<'c, M, S>>>>⟧.meanwhile
+        ⟦<BusyCopies<'b, K, V> as CopyOrders<MonitoredStore<'a, N, InsertTracker<'c, M, S>>>>⟧.rests
+        ⟦<BusyCopies<'b, K, V> as CopyOrders<MonitoredStore<'a, N, InsertTracker<'c, M, S>>>>⟧.deeds
+        tally.now (record { copies = copies.entry; reserve = reserve.entry; how_far = how_far }) result.1
+        watched.old watched.new
+        (O.came operator) (O.came result.0.operator) (O.written operator) (O.written result.0.operator)
+        result.0.told result.0.noted }
+    ensures figures { IfOk result.0.told (TellsPing
+        (⟦<BusyCopies<'b, K, V> as CopyOrders<MonitoredStore<'a, N, InsertTracker<'c, M, S>>>>⟧.figured
+        (record { copies = copies.entry; reserve = reserve.entry; how_far = how_far }) watched.new)
+        (IsPinged tally.now (⟦<MonitoredStore<'a, N, InsertTracker<'c, M, S>> as Shelves>⟧.shown watched.old).failures
+        (⟦<MonitoredStore<'a, N, InsertTracker<'c, M, S>> as Shelves>⟧.shown watched.new).failures
+        (⟦<BusyCopies<'b, K, V> as CopyOrders<MonitoredStore<'a, N, InsertTracker<'c, M, S>>>>⟧.counted
+        watched.old watched.new))) }
+    ensures cause { IfErr result.0.told (IsCausedIn most_tries
+        (O.reads operator) (O.reads result.0.operator) (O.writes operator) (O.writes result.0.operator)) }
+{
+    let mut copies = BusyCopies {
+        copies,
+        reserve,
+        how_far,
+    };
+    let after = operator.obeyed(alloc, tally, watched, &mut copies);
+    (after, copies)
+}
+
 /// A store after a turn, and whether the place of a version was lost in it.
 #[derive(Drop)]
 struct AfterTurn<'a, S> {
@@ -148,16 +216,16 @@ struct AfterTurn<'a, S> {
 /// What a server does in a turn.
 impl<
     'x,
-    C: Clock,
+    C: ClockFace,
     P: Peer + Drop,
     O: Operator + Drop,
     L: Callers<P, O>,
     K,
+    V,
     D: WallClock + Drop,
     E: Tell,
-> Server<'x, C, P, O, L, K, D, E> {
-    /// Carries out the order of an operator who came while a copy is made, and ends its connection, whose failures it
-    /// ignores.
+> Server<'x, C, P, O, L, K, V, D, E> {
+    /// Carries out the order of an operator who came while a copy is made, and ends its connection, ignoring failures.
     fn obey_meanwhile<'b, N: Loan, M: Moment, S: Keyring>(
         &mut self,
         operator: O,
@@ -165,6 +233,7 @@ impl<
     )
     where
         K: Copies<S>,
+        V: Reserve<S>,
         requires { IsGoing self.old.progress.stops self.old.progress.left self.old.progress.taken }
         ensures obeys { ObeysMeanwhile (both O.came O.reads) (both O.written O.writes)
             ⟦<InsertTracker<'b, M, S> as Shelves>⟧.shown
@@ -172,19 +241,26 @@ impl<
             (λ old new n. K.counted old.inner.now new.inner.now n)
             operator self.old.how_far
             (both L.waiting L.history self.old.callers.now) (both L.waiting L.history self.new.callers.now)
-            self.old.progress self.new.progress (both E.contents E.writes self.old.errors.now)
-            (both E.contents E.writes self.new.errors.now) watched.old.inner.now watched.new.inner.now }
+            self.old.progress self.new.progress (both E.contents E.writes self.old.errors.now, self.old.faults)
+            (both E.contents E.writes self.new.errors.now, self.new.faults)
+            (lent V.deeds self.old.reserve) (lent V.deeds self.new.reserve)
+            watched.old.inner.now watched.new.inner.now }
         ensures same { self.new.callers.ghost_name ≡ self.old.callers.ghost_name }
         ensures same_errors { self.new.errors.ghost_name ≡ self.old.errors.ghost_name }
         ensures notes { WritesNotices (E.contents self.old.errors.now) (E.contents self.new.errors.now) }
     {
         self.progress.count_operator();
         let tally = self.progress.tally;
-        let mut copies = BusyCopies {
-            copies: self.copies,
-            how_far: self.how_far,
-        };
-        let after = operator.obeyed(self.alloc, self.clock, &tally, watched, &mut copies);
+        let (after, copies) = obey_with(
+            self.alloc,
+            operator,
+            &tally,
+            watched,
+            self.copies,
+            self.how_far,
+            self.reserve,
+        );
+        let _reserve = copies.reserve;
         let noted = note_told(self.alloc, after.noted, &after.told);
         self.progress.end_if(is_stopping(after.told));
         self.tell(noted);
@@ -199,16 +275,19 @@ impl<
     )
     where
         K: Copies<S>,
+        V: Reserve<S>,
         requires { IsGoing self.old.progress.stops self.old.progress.left self.old.progress.taken }
         ensures serves { (door : Door (Caller P O))
-            → TakesNext door (both L.waiting L.history self.old.callers.now) next
-            → IfOk next (λ caller. L.is_new caller)
+            → TakesNext AtOnce door (both L.waiting L.history self.old.callers.now) next
+            → IfOk next (λ caller. L.known.is_new caller)
             → Serves (both O.came O.reads) (both O.written O.writes)
-            (both P.came P.reads) (both P.written P.writes) L.is_new ⟦<InsertTracker<'b, M, S> as Shelves>⟧.shown
+            (both P.came P.reads) (both P.written P.writes) L.known ⟦<InsertTracker<'b, M, S> as Shelves>⟧.shown
             (λ old new making. K.made old.inner.now new.inner.now making)
             (λ old new n. K.counted old.inner.now new.inner.now n) true
             door (both L.waiting L.history self.new.callers.now) self.old.progress self.new.progress
-            (both E.contents E.writes self.old.errors.now) (both E.contents E.writes self.new.errors.now)
+            (both E.contents E.writes self.old.errors.now, self.old.faults)
+            (both E.contents E.writes self.new.errors.now, self.new.faults)
+            (lent V.deeds self.old.reserve) (lent V.deeds self.new.reserve)
             watched.old.inner.now watched.new.inner.now }
         ensures same { self.new.callers.ghost_name ≡ self.old.callers.ghost_name }
         ensures same_errors { self.new.errors.ghost_name ≡ self.old.errors.ghost_name }
@@ -228,13 +307,16 @@ impl<
     )
     where
         K: Copies<S>,
+        V: Reserve<S>,
         ensures serves { Serves (both O.came O.reads) (both O.written O.writes)
-            (both P.came P.reads) (both P.written P.writes) L.is_new ⟦<InsertTracker<'b, M, S> as Shelves>⟧.shown
+            (both P.came P.reads) (both P.written P.writes) L.known ⟦<InsertTracker<'b, M, S> as Shelves>⟧.shown
             (λ old new making. K.made old.inner.now new.inner.now making)
             (λ old new n. K.counted old.inner.now new.inner.now n) true
             (both L.waiting L.history self.old.callers.now) (both L.waiting L.history self.new.callers.now)
-            self.old.progress self.new.progress (both E.contents E.writes self.old.errors.now)
-            (both E.contents E.writes self.new.errors.now) watched.old.inner.now watched.new.inner.now }
+            self.old.progress self.new.progress (both E.contents E.writes self.old.errors.now, self.old.faults)
+            (both E.contents E.writes self.new.errors.now, self.new.faults)
+            (lent V.deeds self.old.reserve) (lent V.deeds self.new.reserve)
+            watched.old.inner.now watched.new.inner.now }
         ensures same { self.new.callers.ghost_name ≡ self.old.callers.ghost_name }
         ensures same_errors { self.new.errors.ghost_name ≡ self.old.errors.ghost_name }
         ensures notes { WritesNotices (E.contents self.old.errors.now) (E.contents self.new.errors.now) }
@@ -258,15 +340,17 @@ impl<
     ) -> &'a mut InsertTracker<'b, M, S>
     where
         K: Copies<S>,
+        V: Reserve<S>,
         requires { noting.ghost_name ≡ N.name }
         ensures same_store { result.ghost_name ≡ noting.entry.ghost_name }
         ensures serves { Serves (both O.came O.reads) (both O.written O.writes)
-            (both P.came P.reads) (both P.written P.writes) L.is_new ⟦<InsertTracker<'b, M, S> as Shelves>⟧.shown
+            (both P.came P.reads) (both P.written P.writes) L.known ⟦<InsertTracker<'b, M, S> as Shelves>⟧.shown
             (λ old new making. K.made old.inner.now new.inner.now making)
             (λ old new n. K.counted old.inner.now new.inner.now n) true
             (both L.waiting L.history self.old.callers.now) (both L.waiting L.history self.new.callers.now)
-            self.old.progress self.new.progress (both E.contents E.writes self.old.errors.now)
-            (both E.contents E.writes self.new.errors.now) noting.old result.now }
+            self.old.progress self.new.progress (both E.contents E.writes self.old.errors.now, self.old.faults)
+            (both E.contents E.writes self.new.errors.now, self.new.faults)
+            (lent V.deeds self.old.reserve) (lent V.deeds self.new.reserve) noting.old result.now }
         ensures same { self.new.callers.ghost_name ≡ self.old.callers.ghost_name }
         ensures same_errors { self.new.errors.ghost_name ≡ self.old.errors.ghost_name }
         ensures notes { WritesNotices (E.contents self.old.errors.now) (E.contents self.new.errors.now) }
@@ -289,16 +373,18 @@ impl<
     ) -> AfterTurn<'a, S>
     where
         K: Copies<S>,
+        V: Reserve<S>,
         requires name { shelves.ghost_name ≡ M.name }
         requires was { (w : World) → (S.shown shelves.old).stands w → M.was w }
         requires stood { (w : World) → M.was w → (S.shown shelves.old).stands w }
         requires before { M.before ≡ news.old }
         ensures same_store { result.shelves.ghost_name ≡ shelves.entry.ghost_name }
         ensures serves { Serves (both O.came O.reads) (both O.written O.writes)
-            (both P.came P.reads) (both P.written P.writes) L.is_new S.shown K.made K.counted true
+            (both P.came P.reads) (both P.written P.writes) L.known S.shown K.made K.counted true
             (both L.waiting L.history self.old.callers.now) (both L.waiting L.history self.new.callers.now)
-            self.old.progress self.new.progress (both E.contents E.writes self.old.errors.now)
-            (both E.contents E.writes self.new.errors.now) shelves.old result.shelves.now }
+            self.old.progress self.new.progress (both E.contents E.writes self.old.errors.now, self.old.faults)
+            (both E.contents E.writes self.new.errors.now, self.new.faults)
+            (lent V.deeds self.old.reserve) (lent V.deeds self.new.reserve) shelves.old result.shelves.now }
         ensures newcomers { result.lost ≡ false
             → Notes (S.shown shelves.old) (S.shown result.shelves.now) news.old news.new }
         ensures same { self.new.callers.ghost_name ≡ self.old.callers.ghost_name }
@@ -325,32 +411,36 @@ impl<
 /// A turn serves those who wait.
 impl<
     'x,
-    C: Clock,
+    C: ClockFace,
     P: Peer + Drop,
     O: Operator + Drop,
     L: Callers<P, O>,
     S: Keyring,
     K: Copies<S>,
+    V: Reserve<S>,
     D: WallClock + Drop,
     E: Tell,
-> Between<S> for Server<'x, C, P, O, L, K, D, E> {
+> Between<S> for Server<'x, C, P, O, L, K, V, D, E> {
     ghost use Rattle.socket.specs.Connections.{both};
+    ghost use Rattle.control.specs.Reserve.{lent};
     ghost use Rattle.control.specs.Serving.{TakesTurns, no_fewer_turns, then_turns, turns_rest};
 
     ghost went = { λ old new s t. TakesTurns (both O.came O.reads) (both O.written O.writes)
-        (both P.came P.reads) (both P.written P.writes) L.is_new S.shown K.made K.counted
+        (both P.came P.reads) (both P.written P.writes) L.known S.shown K.made K.counted
         (record {
           door = both L.waiting L.history old.callers.now;
           progress = old.progress;
-          errors = both E.contents E.writes old.errors.now;
+          log = (both E.contents E.writes old.errors.now, old.faults);
           lent = (old.callers.ghost_name, old.errors.ghost_name);
+          room = lent V.deeds old.reserve;
           store = s;
         })
         (record {
           door = both L.waiting L.history new.callers.now;
           progress = new.progress;
-          errors = both E.contents E.writes new.errors.now;
+          log = (both E.contents E.writes new.errors.now, new.faults);
           lent = (new.callers.ghost_name, new.errors.ghost_name);
+          room = lent V.deeds new.reserve;
           store = t;
         }) };
 
@@ -359,7 +449,7 @@ impl<
 
     /// Serves at most `MOST_SERVED` callers.
     fn turn(&mut self, shelves: &mut S, news: &mut Newcomers) -> Result<(), TurnEnd>
-        ensures went { ⟦<Server<'x, C, P, O, L, K, D, E> as Between<S>>⟧.went self.old self.new
+        ensures went { ⟦<Server<'x, C, P, O, L, K, V, D, E> as Between<S>>⟧.went self.old self.new
             shelves.old shelves.new }
         ensures honest { (S.shown shelves.new).is_honest → (S.shown shelves.old).is_honest }
         ensures notes { OnOk result (Notes (S.shown shelves.old) (S.shown shelves.new) news.old news.new) }
@@ -379,7 +469,7 @@ impl<
     }
 
     fn note_how_far(&mut self, how_far: CopyProgress)
-        ensures same { (s : S) → ⟦<Server<'x, C, P, O, L, K, D, E> as Between<S>>⟧.went self.old self.new s s }
+        ensures same { (s : S) → ⟦<Server<'x, C, P, O, L, K, V, D, E> as Between<S>>⟧.went self.old self.new s s }
         ensures noted { self.new.how_far ≡ Some how_far }
     {
         self.how_far = Some(how_far);
@@ -396,21 +486,24 @@ impl<
 impl<
     'x,
     'a,
-    C: Clock,
+    C: ClockFace,
     P: Peer + Drop,
     O: Operator + Drop,
     L: Callers<P, O>,
     N: Loan,
     S: Keyring,
     K: Copies<S>,
+    V: Reserve<S>,
     D: WallClock + Drop,
     E: Tell,
-> CopyOrders<MonitoredStore<'a, N, S>> for Server<'x, C, P, O, L, K, D, E> {
-    ghost use Rattle.std.specs.Prelude.{None};
+> CopyOrders<MonitoredStore<'a, N, S>> for Server<'x, C, P, O, L, K, V, D, E> {
+    ghost use Rattle.std.specs.Prelude.{◌≡◌, None};
+    ghost use Rattle.std.proofs.Common.{◌∙◌, refl};
     ghost use Rattle.socket.specs.Connections.{both};
-    ghost use Rattle.control.specs.Copying.{IsBegun, IsOnlyRead, ToPath};
+    ghost use Rattle.control.specs.Copying.{ToPath};
     ghost use Rattle.control.specs.Metrics.{TellsKept};
-    ghost use Rattle.control.specs.Serving.{TakesTurns};
+    ghost use Rattle.control.specs.Reserve.{lent};
+    ghost use Rattle.control.specs.Serving.{MakesWatched};
 
     ghost made = { λ old new making. K.made old.inner.now new.inner.now making };
 
@@ -419,10 +512,34 @@ impl<
     /// No copy is being made.
     ghost figured = { λ _ w f. TellsKept (K.figured w.inner.now) w.traffic w.copied None f };
 
-    ghost meanwhile = { λ old new s t making. (mid : S)
-        × ⟦<Server<'x, C, P, O, L, K, D, E> as Between<S>>⟧.went old new s.inner.now mid
-        × IsOnlyRead (S.shown mid) (S.shown t.inner.now)
-        × IsBegun (⟦<Server<'x, C, P, O, L, K, D, E> as Between<S>>⟧.ended new) making };
+    /// The one who ordered it is watched first. It ends early only if that one left since then, or an operator was told
+    /// that the server ends.
+    ghost meanwhile = { λ old new s t making. MakesWatched (both O.came O.reads) (both O.written O.writes)
+        (both P.came P.reads) (both P.written P.writes) L.known S.shown K.made K.counted
+        (both L.waiting L.history) L.left old.callers.now
+        (record {
+          door = both L.waiting L.history old.callers.now;
+          progress = old.progress;
+          log = (both E.contents E.writes old.errors.now, old.faults);
+          lent = (old.callers.ghost_name, old.errors.ghost_name);
+          room = lent V.deeds old.reserve;
+          store = s.inner.now;
+        })
+        (record {
+          door = both L.waiting L.history new.callers.now;
+          progress = new.progress;
+          log = (both E.contents E.writes new.errors.now, new.faults);
+          lent = (new.callers.ghost_name, new.errors.ghost_name);
+          room = lent V.deeds new.reserve;
+          store = t.inner.now;
+        })
+        (⟦<Server<'x, C, P, O, L, K, V, D, E> as Between<S>>⟧.ended new) making };
+
+    ghost deeds = { λ s. V.deeds s.reserve.now };
+
+    /// Whoever calls, how far it has come, what it told and its reserve are the same.
+    ghost rests = { λ a b. (b.callers ≡ a.callers) × (b.progress ≡ a.progress)
+        × (b.errors ≡ a.errors) × (b.faults ≡ a.faults) × (b.reserve.ghost_name ≡ a.reserve.ghost_name) };
 
     /// Also notes when the copy was made, if it was.
     fn copy_to(
@@ -430,10 +547,8 @@ impl<
         shelves: &mut MonitoredStore<'a, N, S>,
         path: &str,
     ) -> Result<(), CopyRefusal>
-        ensures meanwhile { (mid : S)
-            × ⟦<Server<'x, C, P, O, L, K, D, E> as Between<S>>⟧.went self.old self.new shelves.old.inner.now mid
-            × IsOnlyRead (S.shown mid) (S.shown shelves.new.inner.now)
-            × IsBegun (⟦<Server<'x, C, P, O, L, K, D, E> as Between<S>>⟧.ended self.new) (ToPath path.now result) }
+        ensures meanwhile { ⟦<Server<'x, C, P, O, L, K, V, D, E> as CopyOrders<MonitoredStore<'a, N, S>>>⟧.meanwhile
+            self.old self.new shelves.old shelves.new (ToPath path.now result) }
         ensures came { K.made shelves.old.inner.now shelves.new.inner.now (ToPath path.now result) }
         ensures time { NotesTime (D.shown self.new.calendar) shelves.old.copied shelves.new.copied result }
     {
@@ -476,22 +591,16 @@ impl<
         shelves.figures_with(self.copies.figures(shelves.inner), None)
     }
 
-    fn give_up_room(&self) -> bool {
-        <K as Copies<S>>::give_up_room(self.copies)
+    fn give_up_room(&mut self) -> bool {
+        <V as Reserve<S>>::give_up_room(self.reserve)
     }
-}
 
-impl<
-    'x,
-    C: Clock,
-    P: Peer + Drop,
-    O: Operator + Drop,
-    L: Callers<P, O>,
-    K: KeepsRoom,
-    D: WallClock + Drop,
-    E: Tell,
-> KeepsRoom for Server<'x, C, P, O, L, K, D, E> {
-    fn keep_room(&self) -> Room {
-        self.copies.keep_room()
+    fn renew_room(&mut self) {
+        self.reserve.keep_room();
     }
+
+    ghost is_same = { λ s. (refl, refl, refl, refl, refl) };
+
+    ghost stays_on = { λ a b c one two.
+        (two.0 ∙ one.0, two.1 ∙ one.1, two.2 ∙ one.2, two.3 ∙ one.3, two.4 ∙ one.4) };
 }

@@ -1,6 +1,7 @@
 -- One more call of a stream in time.
-use Rattle.std.proofs.Common.{ℕ, ◌+◌, ◌-◌, ◌^◌, ◌<◌, ◌≤◌, min, ◌≡◌, refl, sym, ap, ◌∙◌, subst, List, ◌∷◌, Bool, false}
-use Rattle.std.proofs.Common.{Option, Some, None, Result, Ok, Err, MatchOption, MatchResult, IfSome, IfErr, OnOk, arith}
+use Rattle.std.proofs.Common.{ℕ, ◌+◌, ◌-◌, ◌^◌, ◌<◌, ◌≤◌, min, ◌≡◌, refl, sym, ap, ◌∙◌, subst, List, []}
+use Rattle.std.proofs.Common.{◌∷◌, Bool, false, Option, Some, None, Result, Ok, Err}
+use Rattle.std.proofs.Common.{MatchOption, MatchResult, IfSome, IfErr, OnOk, arith}
 use Rattle.std.proofs.Math.Logic.{∥∥₁_map}
 use Rattle.std.specs.Duration.{as_nanos}
 use Rattle.std.specs.Time.{instant_nanos}
@@ -91,18 +92,18 @@ module _ {allowed : ℕ → ℕ} {start : List Call} where
     unshut = s.unshut;
   }
 
-  pub stops : (first : Option Instant) (moved : ℕ) (waits : Bool) (calls calls_new : List Call)
-      → calls_new ≡ Stops ∷ calls
-      → Since allowed start first moved waits calls → Since allowed start first moved false calls_new
-  stops first moved waits calls calls_new same s = record {
-    since = Stops ∷ s.since;
-    same = same ∙ ap (λ l. Stops ∷ l) s.same;
-    each = s.each;
-    began = still_began first s.since (Stops ∷ s.since) (λ n. refl) s.began;
-    exact = s.exact;
-    stopped = λ w. subst IsStopped (sym same) tt;
-    unshut = s.unshut;
-  }
+  -- waits were ruled out at first
+  pub stopped_first : (first : Option Instant) (moved : ℕ) (calls calls_new : List Call) → first ≡ None → moved ≡ 0
+      → calls ≡ start → calls_new ≡ Stops ∷ calls → ∥ Since allowed start first moved false calls_new ∥₁
+  stopped_first first moved calls calls_new none zero same noted = rw (none, zero) (∣ record {
+    since = Stops ∷ [];
+    same = noted ∙ ap (λ l. Stops ∷ l) same;
+    each = tt;
+    began = λ now. refl;
+    exact = omega arith;
+    stopped = λ w. subst IsStopped (sym noted) tt;
+    unshut = λ never. never;
+  } ∣₁)
 
   begun : (first : Option Instant) (moved : ℕ) (waits : Bool) (calls calls_new : List Call) → calls_new ≡ Begins ∷ calls
       → (s : Since allowed start first moved waits calls) → MayBegin allowed start s.since

@@ -110,8 +110,8 @@ EachMayBegin allowed start (Shuts ∷ before) = EachMayBegin allowed start befor
 -- From old to new each read and each write began in time: the time that is allowed, in nanoseconds, for the bytes that
 -- were moved before, from the first reading of the clock after old. None began after a call to shut the writing side,
 -- and none was refused that could begin in time.
--- The system was asked for each bound among these calls, and set it: clause `asked` of `Hearing::bound` and
--- `Telling::bound`.
+-- The clock of the stream showed each time among these calls, and the system was asked for each bound and set it: the
+-- clauses `asked` of `Hearing` and `Telling`.
 abbrev pub KeepsTime : (ℕ → ℕ) → List Call → List Call → Type 0
 KeepsTime allowed old new = ∥ ((since : List Call) × (new ≡ since ++ old) × EachMayBegin allowed old since) ∥₁
 

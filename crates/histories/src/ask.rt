@@ -1,10 +1,16 @@
-//! What the system may be asked about the waits of a stream.
+//! What a stream may be asked.
 
-use std::time::Duration;
+use std::time::{Duration, Instant};
 
-/// Something that the system was asked about a stream, or its refusal.
+/// Something that a stream was asked, or its refusal, or what its clock showed.
 #[derive(Clone, Copy)]
 pub enum Ask {
+    /// It was read from, once.
+    Reads,
+    /// It was written to, once.
+    Writes,
+    /// It was flushed, once.
+    Flushes,
     /// Each later read fails that waits longer than this.
     BoundReads(Duration),
     /// Each later write that waits longer than this fails, or returns what it wrote until then.
@@ -13,6 +19,10 @@ pub enum Ask {
     StopWaiting,
     /// Each later write fails, and the other side reads an end.
     Shut,
-    /// The system refused what it was asked before this.
+    /// The system refused what it was asked before this, or that failed.
     Refused,
+    /// The clock of the stream was read, and showed this.
+    Shows(Instant),
+    /// That clock could not be read.
+    Unshown,
 }

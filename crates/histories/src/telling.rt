@@ -2,7 +2,7 @@
 ghost use Rattle.std.specs.Prelude.{◌≡◌, ◌+◌, [], ◌∷◌, Some, MatchResult};
 ghost use Rattle.std.specs.Io.{WritesAtMost};
 ghost use Rattle.std.specs.Io.KnownBytes.{Keeps, WriteAppends};
-ghost use Rattle.histories.specs.Asked.{AsksFor};
+ghost use Rattle.histories.specs.Asked.{AsksFor, LooksAt, Passes};
 ghost use Rattle.histories.specs.Calls.{CallsFlush, CallsWrite, Writes, no_writes};
 ghost use Rattle.histories.specs.Counted.{times};
 ghost use Rattle.histories.specs.declared.ask.Ask.TheVariants as ask;
@@ -13,8 +13,9 @@ use crate::calls::Calls;
 use crate::count::Count;
 use crate::record::Record;
 use crate::wait::{BoundWrite, HasCalls};
+use crate::way::{Once, Plainly, WriteWay};
 use std::io::{self, Write};
-use std::time::{Clock, Duration, Instant};
+use std::time::{Duration, Instant};
 
 /// A writer that keeps account of the calls to it.
 pub trait Tell: Write {
@@ -81,6 +82,61 @@ impl<W: Write> Telling<W> {
     }
 }
 
+impl<W: Write> Telling<W> {
+    /// Writes some bytes in this way, and notes the call.
+    fn tell_by<V: WriteWay<W>>(&mut self, buf: &[u8]) -> io::Result<usize>
+        ensures bound { WritesAtMost result buf.now }
+        ensures bytes { WriteAppends (Some self.old.noted.bytes) (Some self.new.noted.bytes) result buf.now }
+        ensures calls { CallsWrite (⟦<Telling<W> as Tell>⟧.writes self.old) (⟦<Telling<W> as Tell>⟧.writes self.new)
+            result buf.now }
+        ensures passed { WriteAppends (W.contents self.old.inner) (W.contents self.new.inner) result buf.now }
+        ensures noted { MatchResult result
+            (λ n. self.new.calls.calls ≡ call.Moves n ∷ call.Begins ∷ self.old.calls.calls)
+            (λ _. self.new.calls.calls ≡ call.Begins ∷ self.old.calls.calls) }
+        // The writer inside was written to so.
+        ensures went { V.went self.old.inner self.new.inner result buf.now }
+    {
+        self.calls.note(&[Call::Begins]);
+        match V::write(&mut self.inner, buf) {
+            Ok(n) => {
+                self.calls.note(&[Call::Moves(n)]);
+                self.noted.note(&buf[..n]);
+                self.unflushed.note(&buf[..n]);
+                if n == 0 && !buf.is_empty() {
+                    self.failed.one_more();
+                }
+                Ok(n)
+            }
+            Err(e) => {
+                self.failed.one_more();
+                Err(e)
+            }
+        }
+    }
+
+    /// Flushes it in this way, and notes the call.
+    fn settle_by<V: WriteWay<W>>(&mut self) -> io::Result<()>
+        ensures bytes { self.new.noted ≡ self.old.noted }
+        ensures waits { self.new.calls ≡ self.old.calls }
+        ensures calls { CallsFlush (⟦<Telling<W> as Tell>⟧.writes self.old) (⟦<Telling<W> as Tell>⟧.writes self.new)
+            result }
+        ensures passed { Keeps (W.contents self.old.inner) (W.contents self.new.inner) }
+        // The writer inside was flushed so.
+        ensures flushed { V.flushed self.old.inner self.new.inner result }
+    {
+        match V::flush(&mut self.inner) {
+            Ok(()) => {
+                self.unflushed = Record::new();
+                Ok(())
+            }
+            Err(e) => {
+                self.failed.one_more();
+                Err(e)
+            }
+        }
+    }
+}
+
 impl<W: Write> Write for Telling<W> {
     ghost contents = { λ t. Some t.noted.bytes };
 
@@ -108,22 +164,7 @@ impl<W: Write> Tell for Telling<W> {
             (λ n. self.new.calls.calls ≡ call.Moves n ∷ call.Begins ∷ self.old.calls.calls)
             (λ _. self.new.calls.calls ≡ call.Begins ∷ self.old.calls.calls) }
     {
-        self.calls.note(&[Call::Begins]);
-        match self.inner.write(buf) {
-            Ok(n) => {
-                self.calls.note(&[Call::Moves(n)]);
-                self.noted.note(&buf[..n]);
-                self.unflushed.note(&buf[..n]);
-                if n == 0 && !buf.is_empty() {
-                    self.failed.one_more();
-                }
-                Ok(n)
-            }
-            Err(e) => {
-                self.failed.one_more();
-                Err(e)
-            }
-        }
+        self.tell_by::<Plainly>(buf)
     }
 
     fn settle(&mut self) -> io::Result<()>
@@ -133,16 +174,7 @@ impl<W: Write> Tell for Telling<W> {
             (record { unflushed = self.new.unflushed.bytes; failed = times self.new.failed }) result }
         ensures passed { Keeps (W.contents self.old.inner) (W.contents self.new.inner) }
     {
-        match self.inner.flush() {
-            Ok(()) => {
-                self.unflushed = Record::new();
-                Ok(())
-            }
-            Err(e) => {
-                self.failed.one_more();
-                Err(e)
-            }
-        }
+        self.settle_by::<Plainly>()
     }
 }
 
@@ -156,13 +188,46 @@ impl<W: Write> HasCalls for Telling<W> {
 }
 
 impl<W: BoundWrite> Telling<W> {
-    /// Reads the clock, and notes what it shows, or that it can't be read. Fails if it can't.
-    pub(crate) fn look<C: Clock>(&mut self, clock: &C) -> io::Result<Instant>
-        ensures same { self.new ≡ record self.old { calls = self.new.calls } }
+    /// Writes some bytes, as `tell` does, and asks the writer for that once.
+    pub(crate) fn tell_once(&mut self, buf: &[u8]) -> io::Result<usize>
+        ensures bound { WritesAtMost result buf.now }
+        ensures bytes { WriteAppends (Some self.old.noted.bytes) (Some self.new.noted.bytes) result buf.now }
+        ensures calls { CallsWrite (⟦<Telling<W> as Tell>⟧.writes self.old) (⟦<Telling<W> as Tell>⟧.writes self.new)
+            result buf.now }
+        ensures passed { WriteAppends (W.contents self.old.inner) (W.contents self.new.inner) result buf.now }
+        ensures noted { MatchResult result
+            (λ n. self.new.calls.calls ≡ call.Moves n ∷ call.Begins ∷ self.old.calls.calls)
+            (λ _. self.new.calls.calls ≡ call.Begins ∷ self.old.calls.calls) }
+        // The writer inside was asked for this write, and took what is noted.
+        ensures asked { AsksFor ask.Writes (W.asked self.old.inner) (W.asked self.new.inner) result }
+        ensures took { Passes (W.took self.old.inner) (W.took self.new.inner) result buf.now }
+    {
+        self.tell_by::<Once>(buf)
+    }
+
+    /// Flushes it, as `settle` does, and asks the writer for that once.
+    pub(crate) fn settle_once(&mut self) -> io::Result<()>
+        ensures bytes { self.new.noted ≡ self.old.noted }
+        ensures waits { self.new.calls ≡ self.old.calls }
+        ensures calls { CallsFlush (⟦<Telling<W> as Tell>⟧.writes self.old) (⟦<Telling<W> as Tell>⟧.writes self.new)
+            result }
+        ensures passed { Keeps (W.contents self.old.inner) (W.contents self.new.inner) }
+        // The writer inside was asked for this flush.
+        ensures asked { AsksFor ask.Flushes (W.asked self.old.inner) (W.asked self.new.inner) result }
+    {
+        self.settle_by::<Once>()
+    }
+
+    /// Reads the clock of the writer, and notes what it shows, or that it can't be read. Fails if it can't.
+    pub(crate) fn look(&mut self) -> io::Result<Instant>
+        ensures same { self.new ≡ record self.old { inner = self.new.inner; calls = self.new.calls } }
+        ensures passed { W.contents self.new.inner ≡ W.contents self.old.inner }
+        // What is noted is what the clock of the writer inside showed.
+        ensures asked { LooksAt (W.asked self.old.inner) (W.asked self.new.inner) result }
         ensures noted { MatchResult result (λ now. self.new.calls.calls ≡ call.Shows now ∷ self.old.calls.calls)
             (λ _. self.new.calls.calls ≡ call.Unshown ∷ self.old.calls.calls) }
     {
-        match Instant::now(clock) {
+        match self.inner.look() {
             Ok(now) => {
                 self.calls.note(&[Call::Shows(now)]);
                 Ok(now)

@@ -1,6 +1,6 @@
 -- One deed after another.
 use Rattle.std.proofs.Common.{ℕ, ◌≡◌, List, [], ◌∷◌, ◌++◌, ◌∙◌, Option, ap}
-use Rattle.std.specs.Prelude.{All, IfSome}
+use Rattle.std.specs.Prelude.{All, IfSome, length}
 use Rattle.std.proofs.lemmas.List.{append_assoc}
 use Rattle.network.specs.History.{Done, Calls, CallsMeanwhile, deeds_between}
 use Rattle.network.specs.declared.deed.Deed.TheVariants.{Connected, Ended}
@@ -22,7 +22,8 @@ called before mid after path Waits Passes wait link waits passes connected ended
 
 -- so it is where the server was asked in between
 pub called_meanwhile : {L : Type 0} (before made mid after : List (Done L)) (path : List ℕ) (Waits : Wait → Type 0)
-    (Passes Between : L → Type 0) (wait : Wait) (link : L) (between : List (Option L)) → Waits wait → Passes link
+    (Passes : ℕ → L → Type 0) (Between : L → Type 0) (wait : Wait) (link : L) (between : List (Option L)) → Waits wait
+    → Passes (length between) link
     → All (λ asked. IfSome asked Between) between → made ≡ before ++ (path, Connected wait) ∷ []
     → mid ≡ made ++ deeds_between path between → after ≡ mid ++ ([], Ended link) ∷ []
     → CallsMeanwhile before after path Waits Passes Between

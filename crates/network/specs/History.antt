@@ -1,5 +1,5 @@
 -- What was done at sockets.
-use Rattle.std.specs.Prelude.{ℕ, ◌≡◌, List, [], ◌∷◌, ◌++◌, All, IfSome, Option, Some, None}
+use Rattle.std.specs.Prelude.{ℕ, ◌≡◌, List, [], ◌∷◌, ◌++◌, All, IfSome, length, Option, Some, None}
 use Rattle.network.specs.declared.deed.Deed.{Deed}
 use Rattle.network.specs.declared.deed.Deed.TheVariants.{Connected, Unconnected, Ended}
 use Rattle.network.specs.declared.servers.Wait.{Wait}
@@ -38,13 +38,14 @@ module _ {L : Type 0} (before after : List (Done L)) where
     pub passes : Passes link
     pub done : after ≡ before ++ (path, Connected wait) ∷ ([], Ended link) ∷ []
 
-  -- So it was; meanwhile the server of this path was asked in between, each time over a connection of its own, over which
-  -- this passed and each read waited at most a second, or it could not be connected to.
-  pub record CallsMeanwhile (path : List ℕ) (Waits : Wait → Type 0) (Passes PassesBetween : L → Type 0) : Type 0 where
+  -- So it was; meanwhile the server of this path was asked so many times in between, each time over a connection of its
+  -- own, over which this passed and each read waited at most a second, or it could not be connected to.
+  pub record CallsMeanwhile (path : List ℕ) (Waits : Wait → Type 0) (Passes : ℕ → L → Type 0)
+      (PassesBetween : L → Type 0) : Type 0 where
     pub wait : Wait
     pub waits : Waits wait
     pub link : L
-    pub passes : Passes link
     pub between : List (Option L)
+    pub passes : Passes (length between) link
     pub each : All (λ asked. IfSome asked PassesBetween) between
     pub done : after ≡ before ++ (path, Connected wait) ∷ (deeds_between path between ++ ([], Ended link) ∷ [])

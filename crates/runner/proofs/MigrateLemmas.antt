@@ -2,9 +2,7 @@
 use Rattle.std.proofs.Common.{ℕ, ◌≡◌, List, [], ◌∷◌, ◌++◌, Result, sym, ap, subst, ◌∙◌}
 use Rattle.std.proofs.lemmas.List.{append_assoc}
 use Rattle.store_files.specs.History.{Done, Span}
-use Rattle.store_files.specs.declared.files.Deed.{Deed}
-use Rattle.store_files.specs.declared.files.Use.TheVariants.{Writing}
-use Rattle.store_files.specs.declared.files.Deed.TheVariants.{Closed, Copied, Made, Opened, Unlinked}
+use Rattle.store_files.specs.declared.files.Deed.TheVariants.{Closed, Copied, Joined, Made, OpenedUnnamed, Unlinked}
 use Rattle.sqlite.specs.State.{State}
 use Rattle.world.specs.Store.{Shown}
 use Rattle.commands.specs.declared.refusal.CommandRefusal.{CommandRefusal}
@@ -22,34 +20,19 @@ no_tables_are_foreign db none One is = let e : ◌≡◌ {A = Schema} no_schema 
 no_tables_are_foreign db none Two is = let e : ◌≡◌ {A = Schema} no_schema schema_2 = sym none
     ∙ is in let t = ap (λ (s : Schema). s.tables) e in cc
 
--- a deed, by another text of the name of its file
-named : {C : Type 0} (before after : List (Done C)) (name other : List ℕ) (deed : Deed C) → other ≡ name
-    → after ≡ before ++ (other, deed) ∷ [] → after ≡ before ++ (name, deed) ∷ []
-named before after name other deed same is = is ∙ ap (λ n. before ++ (n, deed) ∷ []) same
-
--- what was done after what was done
-then : {A : Type 0} (before mid after one two : List A) → mid ≡ before ++ one → after ≡ mid ++ two
-    → after ≡ before ++ (one ++ two)
-then before mid after one two first second = second ∙ (ap (λ m. m ++ two) first ∙ append_assoc before one two)
-
--- a copy that was opened, lost its names and was closed
-pub copy_migrated : {C : Type 0} (before a b c d : List (Done C)) (path log n₁ n₂ n₃ n₄ : List ℕ) (end : C)
-    → n₁ ≡ path → n₂ ≡ path → n₃ ≡ log → n₄ ≡ path
-    → a ≡ before ++ (n₁, Opened Writing) ∷ [] → b ≡ a ++ (n₂, Unlinked) ∷ [] → c ≡ b ++ (n₃, Unlinked) ∷ []
-    → d ≡ c ++ (n₄, Closed end) ∷ []
-    → d ≡ before ++ (path, Opened Writing) ∷ (path, Unlinked) ∷ (log, Unlinked) ∷ (path, Closed end) ∷ []
-copy_migrated before a b c d path log n₁ n₂ n₃ n₄ end same₁ same₂ same₃ same₄ opened first second closed =
-    then before c d ((path, Opened Writing) ∷ (path, Unlinked) ∷ (log, Unlinked) ∷ []) ((path, Closed end) ∷ [])
-    (then before b c ((path, Opened Writing) ∷ (path, Unlinked) ∷ []) ((log, Unlinked) ∷ [])
-    (then before a b ((path, Opened Writing) ∷ []) ((path, Unlinked) ∷ []) (named before a path n₁ (Opened Writing) same₁ opened)
-    (named a b path n₂ Unlinked same₂ first))
-    (named b c log n₃ Unlinked same₃ second))
-    (named c d path n₄ (Closed end) same₄ closed)
+-- a copy that was opened without its names, and closed under the first of them
+pub copy_migrated : {C : Type 0} (before mid after : List (Done C)) (path log other : List ℕ) (end : C)
+    → other ≡ path
+    → mid ≡ before ++ (path, OpenedUnnamed) ∷ (log, Unlinked) ∷ [] → after ≡ mid ++ (other, Closed end) ∷ []
+    → after ≡ before ++ (path, OpenedUnnamed) ∷ (log, Unlinked) ∷ (path, Closed end) ∷ []
+copy_migrated before mid after path log other end same opened closed =
+    closed ∙ (ap (λ n. mid ++ (n, Closed end) ∷ []) same ∙ (ap (λ m. m ++ (path, Closed end) ∷ []) opened
+    ∙ append_assoc before ((path, OpenedUnnamed) ∷ (log, Unlinked) ∷ []) ((path, Closed end) ∷ [])))
 
 -- what was done with a copy, from when the older file was copied
 pub from_copied : {C Q F D : Type 0} (state_of : C → State) (shown : F → Shown) (older : Span C Q) (targets : Span F D)
     (from path log to : List ℕ) (mid : List (Done Q)) (result : Result (Unit {0}) CommandRefusal)
-    → mid ≡ older.before ++ (from, Copied) ∷ (path, Made) ∷ (log, Made) ∷ []
+    → mid ≡ older.before ++ (from, Copied) ∷ (to, Joined) ∷ (path, Made) ∷ (log, Made) ∷ []
     → MigratesCopy state_of shown
     (record { begins = older.begins; left = older.left; before = mid; after = older.after })
     targets path log to result

@@ -9,7 +9,7 @@ use Rattle.store_files.specs.declared.refusal.StoreRefusal.{StoreRefusal}
 use Rattle.commands.specs.declared.refusal.CommandRefusal.{CommandRefusal}
 use Rattle.commands.specs.declared.refusal.CommandRefusal.TheVariants.{NotEmpty}
 use Rattle.commands.specs.Ending.{unopened}
-use Rattle.runner.specs.Opened.{store_result, LeavesSource}
+use Rattle.runner.specs.Opened.{store_result, IsOfName, LeavesSource}
 
 module _ {S F : Type 0} (shown : S → Shown) (shown_too : F → Shown) (source source_new : S) where
   -- the teams' part of the source was put into an open store, or it was not, and the result says why
@@ -32,11 +32,12 @@ module _ {S F D : Type 0} (shown : S → Shown) (shown_too : F → Shown) (targe
 
 module _ {S F C D : Type 0} (shown : S → Shown) (shown_too : F → Shown) (files : Span S C) (targets : Span F D)
     (db : List ℕ) (teams : List (List ℕ)) (to : List ℕ) where
-  -- no store was opened, and the result says why: both are one file without bytes, SQLite has a use for the second, or
-  -- the first was to be opened, and was not
+  -- no store was opened, and the result says why: both are one file without bytes, the name of the second was refused,
+  -- or the first was to be opened, and was not
   pub record ExtractsNone (result : Result (Unit {0}) CommandRefusal) : Type 0 where
     pub tells : ((result ≡ Err NotEmpty) × IsIdle files)
-        ⊎ ((why : StoreRefusal) × (result ≡ Err (unopened why)) × (IsIdle files ⊎ Refuses files db why))
+        ⊎ ((why : StoreRefusal) × (result ≡ Err (unopened why))
+        × ((IsIdle files × IsOfName why) ⊎ Refuses files db why))
     pub idle : IsIdle targets
 
   -- the store of the first file was opened, and some teams' part of it was put into that of the other, or was not

@@ -2,7 +2,9 @@
 use Rattle.std.specs.Prelude.{ℕ, ◌≡◌, ◌⊎◌, List, [], ◌∷◌, ◌++◌, Result, Err}
 use Rattle.store_files.specs.History.{Span, IsIdle, Refuses, Opens}
 use Rattle.store_files.specs.declared.files.Use.TheVariants.{Writing}
-use Rattle.store_files.specs.declared.files.Deed.TheVariants.{Copied, Made, Opened, Refused, Closed, Unlinked}
+use Rattle.store_files.specs.Refusal.{IsOfOpening}
+use Rattle.store_files.specs.declared.files.Deed.TheVariants.{Copied, Joined, Made, Closed}
+use Rattle.store_files.specs.declared.files.Deed.TheVariants.{OpenedUnnamed, RefusedUnnamed, Unlinked}
 use Rattle.sqlite.specs.Held.{Held, state}
 use Rattle.sqlite.specs.State.{State}
 use Rattle.sqlite.specs.Steps.{over_memory}
@@ -16,7 +18,7 @@ use Rattle.store_files.specs.declared.refusal.StoreRefusal.{StoreRefusal}
 use Rattle.commands.specs.declared.refusal.CommandRefusal.{CommandRefusal}
 use Rattle.commands.specs.declared.refusal.CommandRefusal.TheVariants.{NotEmpty}
 use Rattle.commands.specs.Ending.{unopened}
-use Rattle.runner.specs.Opened.{store_result, LeavesSource}
+use Rattle.runner.specs.Opened.{store_result, IsOfName, LeavesSource}
 
 module _ {C F : Type 0} (state_of : C → State) (shown : F → Shown) (old old_new : C) where
   -- what the older store has was put into an open one, or it was not, and the result says why
@@ -42,9 +44,11 @@ module _ {F D : Type 0} (shown : F → Shown) (targets : Span F D) (to : List �
     pub foreign : IsForeign (state over_memory none).now
     pub migrates : MigratesTo (state over_memory) shown targets to none none_new result
 
-  -- the new store was not to be opened, and the result says why
+  -- the new store was not to be opened, because a name was refused or memory ran out, and the result says which
   pub record MigratesNone (result : Result (Unit {0}) CommandRefusal) : Type 0 where
-    pub tells : (result ≡ Err NotEmpty) ⊎ ((why : StoreRefusal) × (result ≡ Err (unopened why)))
+    pub why : StoreRefusal
+    pub of_name : IsOfName why
+    pub tells : result ≡ Err (unopened why)
     pub idle : IsIdle targets
 
   abbrev pub MigratesEmpty : Result (Unit {0}) CommandRefusal → Type 0
@@ -57,35 +61,36 @@ pub record IsOlder {C : Type 0} (state_of : C → State) (held : Image) (old : C
 
 module _ {C Q F D : Type 0} (state_of : C → State) (shown : F → Shown) (older : Span C Q) (targets : Span F D)
     (path log to : List ℕ) where
-  -- The copy at `path` was opened and lost its names, what it has was put into the store of the other file, or was
-  -- not, and it was closed.
+  -- The copy at `path` was opened and lost its names by that, then what it has was put into the store of the other
+  -- file, or was not, and it was closed.
   pub record MigratesOpened (result : Result (Unit {0}) CommandRefusal) : Type 0 where
     pub old : C
     pub old_new : C
     pub begins : older.begins old
     pub migrates : MigratesTo state_of shown targets to old old_new result
     pub done : older.after
-        ≡ older.before ++ (path, Opened Writing) ∷ (path, Unlinked) ∷ (log, Unlinked) ∷ (path, Closed (older.left old_new)) ∷ []
+        ≡ older.before ++ (path, OpenedUnnamed) ∷ (log, Unlinked) ∷ (path, Closed (older.left old_new)) ∷ []
 
   -- the copy at `path` was not opened and lost its names, and the result says why
   pub record MigratesUnopened (result : Result (Unit {0}) CommandRefusal) : Type 0 where
     pub why : StoreRefusal
+    pub opening : IsOfOpening why
     pub tells : result ≡ Err (unopened why)
     pub idle : IsIdle targets
-    pub done : older.after ≡ older.before ++ (path, Refused why) ∷ (path, Unlinked) ∷ (log, Unlinked) ∷ []
+    pub done : older.after ≡ older.before ++ (path, RefusedUnnamed why) ∷ (log, Unlinked) ∷ []
 
   abbrev pub MigratesCopy : Result (Unit {0}) CommandRefusal → Type 0
   MigratesCopy result = MigratesOpened result ⊎ MigratesUnopened result
 
 module _ {C Q F D : Type 0} (state_of : C → State) (shown : F → Shown) (older : Span C Q) (targets : Span F D)
     (from to : List ℕ) where
-  -- the history from when the older file and its log were copied into files of these names, and nothing else was done
-  -- to either
+  -- the history from when the older file and its log were copied into files of these names, which were made in the
+  -- folder of the new store, and nothing else was done to either
   abbrev pub copied : List ℕ → List ℕ → Span C Q
   copied path log = record {
     begins = older.begins;
     left = older.left;
-    before = older.before ++ (from, Copied) ∷ (path, Made) ∷ (log, Made) ∷ [];
+    before = older.before ++ (from, Copied) ∷ (to, Joined) ∷ (path, Made) ∷ (log, Made) ∷ [];
     after = older.after;
   }
 

@@ -25,6 +25,10 @@ pub record HasBegun {S : Type 0} (shown : S → Shown) (held : Image) (store : S
   pub found : (shown store).is_honest → (w : World) → HoldsStore held w → BeginsAt (shown store) w
   pub none_failed : (shown store).failures ≡ 0
 
+-- why the name of a new store is refused: SQLite has a use for it, or memory ran out
+abbrev pub IsOfName : StoreRefusal → Type 0
+IsOfName why = (why ≡ store.Device) ⊎ (why ≡ store.Memory)
+
 -- why a new store was not opened, by why its file was refused: `NotEmpty` may stand for `Device`, where a log stands
 -- alone at its name
 abbrev pub IsTargetRefusal : StoreRefusal → StoreRefusal → Type 0

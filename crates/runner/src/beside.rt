@@ -2,6 +2,9 @@
 //! a name makes the database unreadable, so none is made there. This module looks at names, reads how a log begins, and
 //! syncs the log of a copy; it makes, changes and removes no file.
 
+ghost use Rattle.std.specs.Prelude.{IfErr};
+ghost use Rattle.runner.specs.Opened.{IsOfName};
+
 use commands::files::{is_missing_or_empty, is_same_file};
 use std::fs::{self, File};
 use std::io::{self, ErrorKind, Read};
@@ -12,7 +15,9 @@ use store_files::refusal::StoreRefusal;
 
 /// Tests the name of a new store. Fails with `Device` if SQLite has a use for that file, by its name or by a link: for
 /// the database at `db`, or for another that stands there. Fails with `Memory` if memory runs out.
-pub(crate) fn check_name(rt: &HostRuntime, db: &str, to: &str) -> Result<(), StoreRefusal> {
+pub(crate) fn check_name(rt: &HostRuntime, db: &str, to: &str) -> Result<(), StoreRefusal>
+    ensures { IfErr result IsOfName }
+{
     match is_taken(rt, db, to) {
         Ok(false) => Ok(()),
         Ok(true) => Err(StoreRefusal::Device),

@@ -1,5 +1,5 @@
-//! Copies of the store of a file while it is served, catalogs of it, counts of its versions, its size and its reserve.
-//! That a copy opens no other file than by `StoreFiles`, the sizes and the reserve are read and tested, and not proved.
+//! Copies of the store of a file while it is served, catalogs of it, counts of its versions, and its size. That a copy
+//! opens no other file than by `StoreFiles`, and the sizes, are read and tested, and not proved.
 
 ghost use Rattle.std.specs.Prelude.{◌≡◌, ◌≢◌, ◌⊎◌, [], Err, IfErr, IfOk, IsErrOf};
 ghost use Rattle.control.specs.Copying.{IsOnlyRead};
@@ -12,18 +12,16 @@ ghost use Rattle.world.specs.Store.{HasCause};
 use crate::file_checks::{FileChecks, target_refusal};
 use crate::found::{ClosedFile, Found, OpenedStore};
 use crate::host::SystemHost;
-use crate::reserve::{give_up, keep, make};
 use crate::slice_pace::SlicePace;
 use catalog::PrintError;
 use catalog::between::{CatalogEnd, print_between};
 use commands::files::size_of_file;
-use control::{CatalogRefusal, Copies, CopyRefusal, KeepsRoom, Metrics, Room};
-use histories::ResetDeadline;
+use control::{CatalogRefusal, Copies, CopyRefusal, Metrics};
+use histories::{ClockFace, ResetDeadline};
 use interleave::between::Between;
 use slices::pace::Pace;
 use sqlite::Alter;
 use std::alloc::Global;
-use std::time::Clock;
 use store::between::CopyEnd;
 use store::file_name::log_name;
 use store::store::SqlShelves;
@@ -59,12 +57,6 @@ impl<'a, G> FileCopies<'a, G> {
             Ok(log) => size_of_file(rt, log.as_str()),
             Err(_) => None,
         }
-    }
-}
-
-impl<'a, G> KeepsRoom for FileCopies<'a, G> {
-    fn keep_room(&self) -> Room {
-        keep(self.host.rt, self.db)
     }
 }
 
@@ -130,14 +122,6 @@ impl<'a, S: Alter, G: CopyTargets> Copies<SqlShelves<S>> for FileCopies<'a, G> {
         }
     }
 
-    fn make_room(&self) -> bool {
-        make(self.host.rt, self.db)
-    }
-
-    fn give_up_room(&self) -> bool {
-        give_up(self.host.rt, self.db)
-    }
-
     ghost busy = { λ s path. inr (record { same = refl; tells = refl }) };
 
     ghost no_catalog = { λ s key. inr (refl, refl, refl) };
@@ -157,7 +141,7 @@ fn copy_to<C, L, S, G, B>(
     between: &mut B,
 ) -> Result<(), CopyRefusal>
 where
-    C: Clock,
+    C: ClockFace,
     L: FileChecks,
     S: Alter,
     G: StoreFiles<OpenedStore, ClosedFile>,

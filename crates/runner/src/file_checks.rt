@@ -1,6 +1,6 @@
 //! What a command asks of files that it opens as stores, or has open, and where it shows how far it is.
-ghost use Rattle.std.specs.Prelude.{◌≡◌, false, OnOk};
-ghost use Rattle.runner.specs.Opened.{IsTargetRefusal};
+ghost use Rattle.std.specs.Prelude.{◌≡◌, false, IfErr, OnOk};
+ghost use Rattle.runner.specs.Opened.{IsOfName, IsTargetRefusal};
 
 use commands::progress::StderrLine;
 use store_files::refusal::StoreRefusal;
@@ -28,7 +28,8 @@ pub trait FileChecks {
     /// Tests the name of a new store. Fails with `Device` if SQLite has a use for that file, by its name or by a link:
     /// for the database at `db`, or for another that stands there. Fails with `Memory` if memory runs out.
     fn check_name(&self, db: &str, to: &str) -> Result<(), StoreRefusal>
-        ensures free { OnOk result (free self.now db.now to.now) };
+        ensures free { OnOk result (free self.now db.now to.now) }
+        ensures refused { IfErr result IsOfName };
 
     /// Whether there is no such file, or it has no bytes, and beside it stands a log that may be what is left of a
     /// store.

@@ -10,6 +10,7 @@ use crate::file_checks::FileChecks;
 use crate::found::{ClosedFile, Found, FoundTables, OpenedStore};
 use crate::migrate::migrate_file;
 use crate::older_files::OlderFiles;
+use crate::reserve::SystemReserve;
 use crate::system::SystemStoreFiles;
 use commands::action::{Action, Outside, act_on};
 use commands::files::{is_empty_file, is_missing_or_empty, is_same_file};
@@ -164,13 +165,13 @@ impl<'a> ActionHost<OpenedStore, SystemOutside<'a>> for SystemHost<'a> {
 
     ghost acts = { within (λ s. s.shelves) (λ _. Acts
         (record {
-          heeded = both ⟦<SystemOperator as Operator>⟧.came ⟦<SystemOperator as Operator>⟧.reads;
-          told = both ⟦<SystemOperator as Operator>⟧.written ⟦<SystemOperator as Operator>⟧.writes;
-          heard = both ⟦<SystemPeer as Peer>⟧.came ⟦<SystemPeer as Peer>⟧.reads;
-          written = both ⟦<SystemPeer as Peer>⟧.written ⟦<SystemPeer as Peer>⟧.writes;
-          is_new = ⟦<SystemEntrances<'a> as Callers<SystemPeer, SystemOperator>>⟧.is_new;
-          door = of_entrances (both ⟦<SystemEntrances<'a> as Callers<SystemPeer, SystemOperator>>⟧.waiting
-              ⟦<SystemEntrances<'a> as Callers<SystemPeer, SystemOperator>>⟧.history);
+          heeded = both ⟦<SystemOperator<'a> as Operator>⟧.came ⟦<SystemOperator<'a> as Operator>⟧.reads;
+          told = both ⟦<SystemOperator<'a> as Operator>⟧.written ⟦<SystemOperator<'a> as Operator>⟧.writes;
+          heard = both ⟦<SystemPeer<'a> as Peer>⟧.came ⟦<SystemPeer<'a> as Peer>⟧.reads;
+          written = both ⟦<SystemPeer<'a> as Peer>⟧.written ⟦<SystemPeer<'a> as Peer>⟧.writes;
+          known = ⟦<SystemEntrances<'a> as Callers<SystemPeer<'a>, SystemOperator<'a>>>⟧.known;
+          door = of_entrances (both ⟦<SystemEntrances<'a> as Callers<SystemPeer<'a>, SystemOperator<'a>>>⟧.waiting
+              ⟦<SystemEntrances<'a> as Callers<SystemPeer<'a>, SystemOperator<'a>>>⟧.history);
           read = of_files ⟦<SystemFiles<'a> as Sources>⟧.history;
           drawn = of_random ⟦<SystemRandomBytes<'a> as RandomBytes>⟧.drawn;
         })
@@ -281,7 +282,7 @@ fn act_in<
           told = both Q.written Q.writes;
           heard = both P.came P.reads;
           written = both P.written P.writes;
-          is_new = N.is_new;
+          known = N.known;
           door = of_entrances (both N.waiting N.history);
           read = of_files F.history;
           drawn = of_random B.drawn;
@@ -319,6 +320,7 @@ fn act_in<
         &ImportProgress::on_stderr(rt),
         shelves,
         &copies,
+        &mut SystemReserve::new(rt, name),
         outside,
         action,
         input,

@@ -127,7 +127,7 @@ where
     migrate_copy(checks, older, targets, &copy, from, to)
 }
 
-/// Migrates a copy of the older file at `from`, as `migrate_file` does, and takes its names away as soon as it is open.
+/// Migrates a copy of the older file at `from`, as `migrate_file` does. The copy loses its names as soon as it is open.
 fn migrate_copy<L, Q, G>(
     checks: &L,
     older: &mut Q,
@@ -147,10 +147,7 @@ where
     ensures tested { (G.history targets.new ≡ G.history targets.old)
         ⊎ ((from.now ≢ to.now) × L.apart checks.now from.now to.now) }
 {
-    let opened = older.open(copy.path.as_str(), Use::Writing);
-    older.unlink(copy.path.as_str());
-    older.unlink(copy.log.as_str());
-    let mut old = opened?;
+    let mut old = older.open_unnamed(copy)?;
     let told = migrate_to(checks, targets, from, &mut old.store, to);
     older.close(old);
     told

@@ -3,6 +3,9 @@
 //! sqlite opens the files of a store to write: it makes the log if there is none, and writes behind the last commit of
 //! a log that another program wrote. So it opens a copy, which stands beside the new store.
 
+ghost use Rattle.std.specs.Prelude.{IfErr};
+ghost use Rattle.store_files.specs.Refusal.{IsOfOpening};
+
 use crate::copy_line::{FilesLine, ShownFile};
 use crate::temporary_files::TemporaryFiles;
 use os::RangeLock;
@@ -38,7 +41,9 @@ pub(crate) fn copy_of(
     rt: &HostRuntime,
     path: &str,
     to: &str,
-) -> Result<TemporaryFiles, StoreRefusal> {
+) -> Result<TemporaryFiles, StoreRefusal>
+    ensures { IfErr result IsOfOpening }
+{
     match copy_locked(rt, path, to) {
         Ok(copy) => Ok(copy),
         Err(error) => match error.kind() {

@@ -1,8 +1,9 @@
 //! Opens the store of the file that a command names.
 
-ghost use Rattle.std.specs.Prelude.{IfOk};
+ghost use Rattle.std.specs.Prelude.{IfErr, IfOk};
 ghost use Rattle.sqlite_wal.specs.Files.{image_at};
 ghost use Rattle.runner.specs.Opened.{HasBegun};
+ghost use Rattle.store_files.specs.Refusal.{IsOfOpening};
 
 use crate::old_file::is_missing;
 use crate::temporary_files::TemporaryFiles;
@@ -28,7 +29,8 @@ pub(crate) fn open_for<T: Start>(
     purpose: Use,
     room: PageRoom,
 ) -> Result<FileShelves<T>, StoreRefusal>
-    ensures { IfOk result (HasBegun ⟦<FileShelves<T> as Shelves>⟧.shown (image_at T.Start)) }
+    ensures begun { IfOk result (HasBegun ⟦<FileShelves<T> as Shelves>⟧.shown (image_at T.Start)) }
+    ensures opening { IfErr result IsOfOpening }
 {
     if matches!(purpose, Use::Reading) && !names_no_file(path) && is_missing_store(rt, path) {
         open_temporary(rt, path, start, room)
@@ -53,7 +55,8 @@ fn open_temporary<T: Start>(
     start: T,
     room: PageRoom,
 ) -> Result<FileShelves<T>, StoreRefusal>
-    ensures { IfOk result (HasBegun ⟦<FileShelves<T> as Shelves>⟧.shown (image_at T.Start)) }
+    ensures begun { IfOk result (HasBegun ⟦<FileShelves<T> as Shelves>⟧.shown (image_at T.Start)) }
+    ensures opening { IfErr result IsOfOpening }
 {
     let files = match TemporaryFiles::beside(rt, path) {
         Ok(files) => files,
@@ -65,7 +68,9 @@ fn open_temporary<T: Start>(
 }
 
 /// Returns why there are no such files: `Memory` if memory ran out, and otherwise `Device`.
-fn temporary_refusal(error: io::Error) -> StoreRefusal {
+fn temporary_refusal(error: io::Error) -> StoreRefusal
+    ensures { IsOfOpening result }
+{
     match error.kind() {
         ErrorKind::OutOfMemory => StoreRefusal::Memory,
         _ => StoreRefusal::Device,
@@ -79,7 +84,8 @@ fn open_named<T: Start>(
     start: T,
     room: PageRoom,
 ) -> Result<FileShelves<T>, StoreRefusal>
-    ensures { IfOk result (HasBegun ⟦<FileShelves<T> as Shelves>⟧.shown (image_at T.Start)) }
+    ensures begun { IfOk result (HasBegun ⟦<FileShelves<T> as Shelves>⟧.shown (image_at T.Start)) }
+    ensures opening { IfErr result IsOfOpening }
 {
     match FileShelves::open_from(rt, path, start, room) {
         Ok(shelves) => Ok(shelves),

@@ -1,12 +1,16 @@
 //! Room on the disk of a served store: a file beside it, which is cut when an order needs room. That these lines do so
 //! is read and tested, and not proved.
+ghost use Rattle.std.specs.Prelude.{◌≡◌, []};
 
-use control::Room;
+use control::{KeepsRoom, Reserve, Room, RoomDeed};
+use sqlite::Alter;
 use std::fs::{self, File, Metadata, OpenOptions};
 use std::io::{self, ErrorKind};
 use std::os::unix::fs::{FileExt, MetadataExt, OpenOptionsExt};
 use std::rt::HostRuntime;
 use store::file_name::real_name;
+use store::store::SqlShelves;
+use store_files::record::Record;
 
 /// The bytes of a reserve: 24 MiB. Whoever publishes leaves a log of at most 999 pages and those of one publish, of
 /// which the largest has 4,144, and perhaps no room to copy them into the file. The next order does that first, so it
@@ -34,19 +38,67 @@ const MARK: &[u8; 7] = b"packed\n";
 /// The bytes that are written at once.
 const PIECE: [u8; 4_096] = [0; 4_096];
 
+/// The reserve of the store of a file. It notes what is done to it.
+#[derive(Drop)]
+pub(crate) struct SystemReserve<'a> {
+    rt: &'a HostRuntime,
+    /// The file of the store.
+    db: &'a str,
+    noted: Record<RoomDeed>,
+}
+
+impl<'a> SystemReserve<'a> {
+    /// Returns the reserve of the store at `db`, to which nothing was done.
+    pub(crate) fn new(rt: &'a HostRuntime, db: &'a str) -> SystemReserve<'a>
+        ensures { result.noted.deeds ≡ [] }
+    {
+        SystemReserve {
+            rt,
+            db,
+            noted: Record::new(),
+        }
+    }
+}
+
+impl<'a> KeepsRoom for SystemReserve<'a> {
+    ghost use Rattle.std.specs.Prelude.{map};
+
+    ghost deeds = { λ r. map (λ deed. deed.1) r.noted.deeds };
+
+    fn make_room(&mut self) -> bool {
+        let is_whole = make(self.rt, self.db);
+        self.noted.note(b"", &RoomDeed::Made(is_whole));
+        is_whole
+    }
+
+    fn keep_room(&mut self) -> Room {
+        let room = keep(self.rt, self.db);
+        self.noted.note(b"", &RoomDeed::Renewed);
+        room
+    }
+}
+
+impl<'a, S: Alter> Reserve<SqlShelves<S>> for SystemReserve<'a> {
+    fn give_up_room(&mut self) -> bool {
+        let given = give_up(self.rt, self.db);
+        self.noted.note(b"", &RoomDeed::GaveUp(given));
+        given
+    }
+}
+
 /// Gives up the reserve of the store at `db`, and returns whether there was one. Errors are ignored.
-pub(crate) fn give_up(rt: &HostRuntime, db: &str) -> bool {
+fn give_up(rt: &HostRuntime, db: &str) -> bool {
     cut(rt, db).unwrap_or(false)
 }
 
 /// Makes the reserve of the store at `db` if there is none, fills it, and returns whether all of it is there. False if
 /// it can't be made, or if another file has its name.
-pub(crate) fn make(rt: &HostRuntime, db: &str) -> bool {
+fn make(rt: &HostRuntime, db: &str) -> bool {
     begun(rt, db).unwrap_or(false)
 }
 
 /// Fills the reserve of the store at `db` as far as the disk has room, and returns how much of it is there.
-pub(crate) fn keep(rt: &HostRuntime, db: &str) -> Room {
+fn keep(rt: &HostRuntime, db: &str) -> Room {
     filled(rt, db).unwrap_or(Room::Missing)
 }
 

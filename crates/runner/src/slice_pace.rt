@@ -1,7 +1,8 @@
 //! How long a slice of a copy takes.
 use crate::file_checks::FileChecks;
+use histories::ClockFace;
 use slices::pace::Pace;
-use std::time::{Clock, Duration, Instant};
+use std::time::{Duration, Instant};
 
 /// The most milliseconds of a slice.
 const MILLIS: u64 = 5;
@@ -27,7 +28,7 @@ const SLOW_MILLIS: u64 = 20;
 /// The log is written to the disk as it grows. Where that takes more than 20 ms, the next time comes after twice as
 /// many bytes: on a slow disk or a busy one, waiting callers wait for it only a few times.
 #[derive(Drop)]
-pub(crate) struct SlicePace<'a, C: Clock, L: FileChecks> {
+pub(crate) struct SlicePace<'a, C: ClockFace, L: FileChecks> {
     clock: &'a C,
     checks: &'a L,
     /// The file that is copied to.
@@ -39,7 +40,7 @@ pub(crate) struct SlicePace<'a, C: Clock, L: FileChecks> {
     settled_at: usize,
 }
 
-impl<'a, C: Clock, L: FileChecks> SlicePace<'a, C, L> {
+impl<'a, C: ClockFace, L: FileChecks> SlicePace<'a, C, L> {
     pub(crate) fn new(clock: &'a C, checks: &'a L, to: &'a str) -> SlicePace<'a, C, L> {
         SlicePace {
             clock,
@@ -67,16 +68,16 @@ impl<'a, C: Clock, L: FileChecks> SlicePace<'a, C, L> {
         let Some(begun) = self.begun else {
             return false;
         };
-        match begun.elapsed(self.clock) {
-            Ok(passed) => passed >= Duration::from_millis(millis),
+        match self.clock.now() {
+            Ok(now) => now.duration_since(begun) >= Duration::from_millis(millis),
             Err(_) => false,
         }
     }
 }
 
-impl<'a, C: Clock, L: FileChecks> Pace for SlicePace<'a, C, L> {
+impl<'a, C: ClockFace, L: FileChecks> Pace for SlicePace<'a, C, L> {
     fn begin(&mut self) -> bool {
-        self.begun = Instant::now(self.clock).ok();
+        self.begun = self.clock.now().ok();
         self.bytes = 0;
         self.unsettled < self.settled_at || self.settle()
     }

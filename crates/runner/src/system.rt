@@ -1,5 +1,9 @@
 //! The files of the system. That these lines do what they note, and no more, is read and not proved.
-ghost use Rattle.std.specs.Prelude.{◌≡◌, [], ◌∷◌, ◌++◌};
+ghost use Rattle.std.specs.Prelude.{◌≡◌, [], ◌∷◌, ◌++◌, IfErr, IfOk};
+ghost use Rattle.runner.specs.Migrate.{IsOlder};
+ghost use Rattle.sqlite.specs.Held.{state};
+ghost use Rattle.sqlite_wal.specs.Files.{image_at};
+ghost use Rattle.store_files.specs.Refusal.{IsOfOpening};
 ghost use Rattle.store_files.specs.declared.files.Deed.TheVariants.{Closed};
 
 use crate::copies::CopyTargets;
@@ -12,7 +16,6 @@ use crate::temporary_files::TemporaryFiles;
 use commands::files::holds_bytes;
 use sqlite::Start;
 use sqlite_trees::store::Store;
-use std::fs;
 use std::rt::HostRuntime;
 use store::files::PageRoom;
 use store::open_older::open_older;
@@ -142,15 +145,12 @@ impl<'a> StoreFiles<ClosedFile, ClosedFile> for SystemOlderFiles<'a> {
         name: &'n str,
         purpose: Use,
     ) -> Result<OpenFile<'n, ClosedFile>, StoreRefusal> {
-        match open_older(self.rt, name, AsFound) {
-            Ok(connection) => {
+        match older_at(self.rt, name) {
+            Ok(store) => {
                 self.noted.note(name.as_bytes(), &Deed::Opened(purpose));
-                Ok(OpenFile {
-                    store: ClosedFile { connection },
-                    name,
-                })
+                Ok(OpenFile { store, name })
             }
-            Err((refusal, _)) => {
+            Err(refusal) => {
                 self.noted.note(name.as_bytes(), &Deed::Refused(refusal));
                 Err(refusal)
             }
@@ -171,6 +171,7 @@ impl<'a> OlderFiles<ClosedFile> for SystemOlderFiles<'a> {
         match copy_of(self.rt, from, beside) {
             Ok(copy) => {
                 self.noted.note(from.as_bytes(), &Deed::Copied);
+                self.noted.note(beside.as_bytes(), &Deed::Joined);
                 self.noted.note(copy.path.as_bytes(), &Deed::Made);
                 self.noted.note(copy.log.as_bytes(), &Deed::Made);
                 Ok(copy)
@@ -182,8 +183,39 @@ impl<'a> OlderFiles<ClosedFile> for SystemOlderFiles<'a> {
         }
     }
 
-    fn unlink(&mut self, name: &str) {
-        self.noted.note(name.as_bytes(), &Deed::Unlinked);
-        let _ = fs::remove_file(self.rt, name);
+    fn open_unnamed<'n>(
+        &mut self,
+        copy: &'n TemporaryFiles,
+    ) -> Result<OpenFile<'n, ClosedFile>, StoreRefusal> {
+        let opened = older_at(self.rt, copy.path.as_str());
+        copy.unlink(self.rt);
+        match opened {
+            Ok(store) => {
+                self.noted.note(copy.path.as_bytes(), &Deed::OpenedUnnamed);
+                self.noted.note(copy.log.as_bytes(), &Deed::Unlinked);
+                Ok(OpenFile {
+                    store,
+                    name: copy.path.as_str(),
+                })
+            }
+            Err(refusal) => {
+                self.noted
+                    .note(copy.path.as_bytes(), &Deed::RefusedUnnamed(refusal));
+                self.noted.note(copy.log.as_bytes(), &Deed::Unlinked);
+                Err(refusal)
+            }
+        }
+    }
+}
+
+/// Opens the older store of a file. Fails as [`open_older`] does.
+fn older_at(rt: &HostRuntime, name: &str) -> Result<ClosedFile, StoreRefusal>
+    ensures begun { IfOk result (λ c. IsOlder (state ⟦<FoundTables as Store>⟧) (image_at ⟦<AsFound as Start>⟧)
+        c.connection) }
+    ensures opening { IfErr result IsOfOpening }
+{
+    match open_older(rt, name, AsFound) {
+        Ok(connection) => Ok(ClosedFile { connection }),
+        Err((refusal, _)) => Err(refusal),
     }
 }

@@ -7,8 +7,6 @@ use Rattle.world.specs.World.{World, only_common}
 use Rattle.tables.specs.Schema.{store_schema, no_schema}
 use Rattle.tables.specs.Means.{Means, StandFor, StandsForNone}
 use Rattle.setup.specs.Shown.{shown_of, BeginsAt}
-use Rattle.store_files.specs.declared.refusal.StoreRefusal.{StoreRefusal}
-use Rattle.store_files.specs.declared.refusal.StoreRefusal.TheVariants as refusal
 
 -- the tables are those of the schema, stay as they are, and stand for the world
 pub record IsFound (old new : State) (w : World) : Type 0 where
@@ -32,10 +30,3 @@ pub record IsBad (db : Database) : Type 0 where
 abbrev pub LeavesFirst : State → State → Type 0
 LeavesFirst old new = (db : Trees) → new.may_leave db
     → old.may_leave db ⊎ ((old.now.schema ≡ no_schema) × StandFor db only_common)
-
--- the refusals of a call that opens a store
-abbrev pub IsOfOpening : StoreRefusal → Type 0
-IsOfOpening refusal.Device = Unit {0}
-IsOfOpening refusal.Memory = Unit {0}
-IsOfOpening refusal.BadSchema = Unit {0}
-IsOfOpening other = ⊥

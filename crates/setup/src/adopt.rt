@@ -7,7 +7,8 @@ ghost use Rattle.tables.specs.Schema.{no_schema};
 ghost use Rattle.tables.specs.Means.{IsSettled};
 ghost use Rattle.tables.specs.Causes.{IsHindered, IsVast};
 ghost use Rattle.tables.specs.Calls.{Honestly};
-ghost use Rattle.setup.specs.Opened.{Opens, IsBad, LeavesFirst, IsOfOpening};
+ghost use Rattle.setup.specs.Opened.{Opens, IsBad, LeavesFirst};
+ghost use Rattle.store_files.specs.Refusal.{IsOfOpening};
 
 use crate::refusal::open_refusal;
 use sqlite::{Alter, Connection};

@@ -1,7 +1,7 @@
 //! Why tables cannot be read or made.
 
 ghost use Rattle.std.specs.Prelude.{◌≡◌, ◌≢◌};
-ghost use Rattle.setup.specs.Opened.{IsOfOpening};
+ghost use Rattle.store_files.specs.Refusal.{IsOfOpening};
 
 use sqlite::{Error, ErrorCode};
 use store_files::refusal::StoreRefusal;

@@ -1,6 +1,6 @@
 -- What a store goes through on one more connection.
 use Rattle.std.proofs.Common.{ℕ, ◌+◌, ◌≤◌, ◌≡◌, refl, sym, ap, ◌∙◌, subst, List, [], ◌∷◌, ◌++◌, length, All, Option}
-use Rattle.std.proofs.Common.{Some, None, Result, Ok, Err, IfErr, inl, inr, arith, append_assoc, append-nil}
+use Rattle.std.proofs.Common.{Some, None, Result, Ok, Err, IfOk, IfErr, inl, inr, arith, append_assoc, append-nil}
 use Rattle.std.proofs.lemmas.List.{length-append}
 use Rattle.std.proofs.lemmas.List.Elements.{All-nil, All-push}
 use Rattle.histories.specs.Account.{Account}
@@ -12,13 +12,14 @@ use Rattle.engine.specs.Store.{GoesThrough}
 use Rattle.engine.specs.declared.fault.Io.{Io}
 use Rattle.engine.specs.declared.fault.Io.TheVariants as io
 use Rattle.engine.proofs.StoreLemmas.{through_none, through_more}
-use Rattle.socket.specs.Connections.{Answers, Come, exchanges_of}
-use Rattle.socket.specs.History.{Door, Ends, Takes, TakesNoPeer}
+use Rattle.socket.specs.Connections.{Answered, AnswersOne, Come, exchanges_of}
+use Rattle.socket.specs.History.{Done, Door, EndsPeer, Known, Takes, TakesNoPeer, written_whole}
 use Rattle.socket.specs.Serving.{AnswersEach, AnswersNext, Call, IsServed, OfPeer, Untaken}
 use Rattle.socket.specs.Serving.{deeds_of, deeds_with, exchanges_at, exchanges_in, peers_of}
 use Rattle.socket.specs.declared.callers.Caller.{Caller}
 use Rattle.socket.specs.declared.callers.Caller.TheVariants.{Peer}
 use Rattle.socket.specs.declared.deed.Deed.TheVariants as deed
+use Rattle.socket.specs.declared.deed.Search.TheVariants.{Waiting}
 
 one_at_most : (first : Option First) → length (exchanges_of first) ≤ 1
 one_at_most None = omega arith
@@ -28,7 +29,7 @@ one_at_most (Some (Closes closing)) = omega arith
 -- there are at most as many messages as connections
 pub one_each : {P : Type 0} (calls : List (Call P)) → length (exchanges_in calls) ≤ length calls
 one_each [] = omega arith
-one_each (OfPeer visit ∷ calls) = omega (
+one_each (OfPeer visit answered ∷ calls) = omega (
   arith,
   length-append (exchanges_of visit.first) (exchanges_in calls),
   one_at_most visit.first,
@@ -46,7 +47,7 @@ module _ {P O : Type 0} where
   peers_last : (calls : List (Call P)) (last : Call P)
       → peers_of {P = P} {O = O} (calls ++ last ∷ []) ≡ peers_of calls ++ peers_of (last ∷ [])
   peers_last [] last = refl
-  peers_last (OfPeer visit ∷ calls) last = ap (λ more. Peer visit.before ∷ more) (peers_last calls last)
+  peers_last (OfPeer visit answered ∷ calls) last = ap (λ more. Peer visit.before ∷ more) (peers_last calls last)
   peers_last (Untaken ∷ calls) last = peers_last calls last
 
 exchanges_last : {P : Type 0} (calls : List (Call P)) (last : Call P)
@@ -71,37 +72,54 @@ then_come (Some all) (Some more) (Some few) first next one two =
 
 module _ {P : Type 0} (heard : P → Account × Reads) (written : P → Option (List ℕ) × Writes) where
   -- a peer whose first message was served as `ServesHeard` says was answered, where a failure has its cause
-  pub answered : (old new : Shown) (peer gone : P) (status : Result (Option ℕ) Io)
+  pub answered_one : (old new : Shown) (peer gone : P) (status : Answered)
       → ServesHeard old new (heard peer).0 (heard gone).0 (written peer).0 (written gone).0 status
       → IfErr status (IsCaused (heard peer).1 (heard gone).1 (written peer).1 (written gone).1)
-      → Answers heard written peer gone old new
-  answered old new peer gone (Ok status) (first, takes, through, is, ended) cause =
-      record { first = Some first; there = (takes, inr ended); through = through }
-  answered old new peer gone (Err io.Read) (got, consumed, unfinished, through, same) cause =
-      record { first = None; there = (same, cause); through = through }
-  answered old new peer gone (Err io.Write) (first, takes, through, inl begun) cause =
-      record { first = Some first; there = (takes, inl (begun, cause)); through = through }
-  answered old new peer gone (Err io.Write) (first, takes, through, inr ended) cause =
-      record { first = Some first; there = (takes, inr ended); through = through }
+      → IfOk status (λ s. (written gone).1.unflushed ≡ [])
+      → AnswersOne heard written peer gone old new status
+  answered_one old new peer gone (Ok status) (first, takes, through, is, ended) cause flushed = record {
+    answers = record { first = Some first; there = (takes, inr ended); through = through };
+    counts = is;
+    cause = flushed;
+  }
+  answered_one old new peer gone (Err io.Read) (got, consumed, unfinished, through, same) cause flushed = record {
+    answers = record { first = None; there = (same, cause); through = through };
+    counts = refl;
+    cause = tt;
+  }
+  answered_one old new peer gone (Err io.Write) (first, takes, through, inl begun) cause flushed = record {
+    answers = record { first = Some first; there = (takes, inl (begun, cause)); through = through };
+    counts = refl;
+    cause = cause;
+  }
+  answered_one old new peer gone (Err io.Write) (first, takes, through, inr ended) cause flushed = record {
+    answers = record { first = Some first; there = (takes, inr ended); through = through };
+    counts = refl;
+    cause = cause;
+  }
 
-  module _ {O : Type 0} (is_new : Caller P O → Type 0) where
+  module _ {O : Type 0} (known : Known P O) where
     -- a connection that was taken, answered and ended
-    pub next_peer : (door mid left : Door (Caller P O)) (old new : Shown) (peer gone : P)
-        → is_new (Peer peer)
-        → Takes door mid (Peer peer) → Answers heard written peer gone old new → Ends mid left (Peer gone)
-        → AnswersNext heard written is_new door left old new
-    next_peer door mid left old new peer gone fresh takes next ends = record {
-      call = OfPeer (record { before = peer; after = gone; first = next.first });
-      came = subst (λ w. Come door.0 w (Peer peer ∷ [])) (sym ends.waits) takes.comes;
-      done = ends.noted ∙ (ap (λ m. m ++ ([], deed.Ended (Peer gone)) ∷ []) takes.noted
-          ∙ append_assoc door.1 (([], deed.Taken (Peer peer)) ∷ []) (([], deed.Ended (Peer gone)) ∷ []));
-      served = (fresh, next.there);
-      through = next.through;
-    }
+    pub next_peer : (door mid left : Door (Caller P O)) (old new : Shown) (peer after : P) (answered : Answered)
+        → known.is_new (Peer peer)
+        → Takes Waiting door mid (Peer peer) → AnswersOne heard written peer after old new answered
+        → EndsPeer known.is_ended mid left after (written_whole answered)
+        → AnswersNext heard written known door left old new
+    next_peer door mid left old new peer after answered fresh takes next (gone, is, ends) =
+        let close : List (Done (Caller P O)) =
+        ([], deed.Left (Peer after) (written_whole answered)) ∷ ([], deed.Ended (Peer gone)) ∷ [] in
+        record {
+          call = OfPeer (record { before = peer; after = after; gone = gone; first = next.answers.first }) answered;
+          came = subst (λ w. Come door.0 w (Peer peer ∷ [])) (sym ends.waits) takes.comes;
+          done = ends.noted ∙ (ap (λ m. m ++ close) takes.noted
+              ∙ append_assoc door.1 (([], deed.Taken Waiting (Peer peer)) ∷ []) close);
+          served = (fresh, (next.answers.there, next.counts, next.cause), is);
+          through = next.answers.through;
+        }
 
     -- a connection that could not be taken
     pub next_untaken : (door left : Door (Caller P O)) (shown : Shown) → TakesNoPeer door left
-        → AnswersNext heard written is_new door left shown shown
+        → AnswersNext heard written known door left shown shown
     next_untaken door left shown takes = record {
       call = Untaken;
       came = takes.comes;
@@ -110,20 +128,20 @@ module _ {P : Type 0} (heard : P → Account × Reads) (written : P → Option (
       through = through_none shown;
     }
 
-    pub each_none : (door : Door (Caller P O)) (shown : Shown) → AnswersEach heard written is_new door door shown shown 0
+    pub each_none : (door : Door (Caller P O)) (shown : Shown) → AnswersEach heard written known door door shown shown 0
     each_none door shown = record {
       calls = [];
       count = refl;
       came = none_come door.0;
       done = sym (append-nil door.1);
-      served = All-nil (IsServed heard written is_new);
+      served = All-nil (IsServed heard written known);
       through = through_none shown;
     }
 
     -- one more after others
     pub each_more : (door mid left : Door (Caller P O)) (old now new : Shown) (n : ℕ)
-        → AnswersEach heard written is_new door mid old now n → AnswersNext heard written is_new mid left now new
-        → AnswersEach heard written is_new door left old new (n + 1)
+        → AnswersEach heard written known door mid old now n → AnswersNext heard written known mid left now new
+        → AnswersEach heard written known door left old new (n + 1)
     each_more door mid left old now new n first next = record {
       calls = first.calls ++ next.call ∷ [];
       count = length-append first.calls (next.call ∷ []) ∙ ap (λ k. k + 1) first.count;
@@ -132,7 +150,7 @@ module _ {P : Type 0} (heard : P → Account × Reads) (written : P → Option (
       done = next.done ∙ (ap (λ m. m ++ deeds_of next.call) first.done
           ∙ (append_assoc door.1 (deeds_with first.calls) (deeds_of next.call)
           ∙ ap (λ l. door.1 ++ l) (sym (deeds_last first.calls next.call))));
-      served = All-push (IsServed heard written is_new) first.calls next.call first.served next.served;
+      served = All-push (IsServed heard written known) first.calls next.call first.served next.served;
       through = subst (GoesThrough old new) (sym (exchanges_last first.calls next.call))
           (through_more old now new (exchanges_in first.calls) first.through (exchanges_at next.call) next.through);
     }

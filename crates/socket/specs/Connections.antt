@@ -1,14 +1,17 @@
 -- What a store goes through while connections are served.
 use Rattle.std.specs.Prelude.{ℕ, ◌≡◌, ◌<◌, ◌≤◌, ◌⊎◌, List, [], ◌∷◌, ◌++◌, length, Option, Some, None}
+use Rattle.std.specs.Prelude.{Result, Ok, Err}
 use Rattle.std.specs.Io.KnownBytes.{Appends, Keeps}
 use Rattle.histories.specs.Account.{Account}
 use Rattle.histories.specs.Calls.{Reads, Writes}
 use Rattle.world.specs.Store.{Shown}
 use Rattle.engine.specs.Causes.{IsUnreadable, most_reads}
 use Rattle.engine.specs.Exchange.{Exchange}
-use Rattle.engine.specs.First.{First, HearsFirst, first_bytes, first_exchanges}
+use Rattle.engine.specs.First.{First, HearsFirst, first_bytes, first_exchanges, first_status}
 use Rattle.engine.specs.Store.{GoesThrough}
 use Rattle.engine.specs.Written.{WritesBeginning}
+use Rattle.engine.specs.declared.fault.Io.{Io}
+use Rattle.engine.specs.declared.fault.Io.TheVariants as io
 
 -- The store went through a run of messages, at most as many as there are connections.
 pub record GoesThroughMost (old new : Shown) (connections : ℕ) : Type 0 where
@@ -22,12 +25,32 @@ Come None left peers = Unit {0}
 Come (Some all) None peers = ⊥
 Come (Some all) (Some left) peers = all ≡ peers ++ left
 
--- A peer before and after it was answered, and what came first on its connection, unless a read failed before that was
--- whole.
+-- A peer before and after it was answered, and when its connection was ended, and what came first on it, unless a read
+-- failed before that was whole.
 pub record Visit (P : Type 0) : Type 0 where
   pub before : P
   pub after : P
+  pub gone : P
   pub first : Option First
+
+-- what became of the connection of a peer: the status of the reply, or `None` where it sent nothing, or which call
+-- failed
+abbrev pub Answered : Type 0
+Answered = Result (Option ℕ) Io
+
+-- It counts as what became of it: by the status that was written for what came first, or as one that failed.
+abbrev pub CountsAs : Option First → Answered → Type 0
+CountsAs None (Ok status) = ⊥
+CountsAs None (Err e) = e ≡ io.Read
+CountsAs (Some first) (Ok status) = status ≡ first_status first
+CountsAs (Some first) (Err e) = e ≡ io.Write
+
+-- a reply that counts as one that was written is flushed; if it counts as one that was not, a call to write it or to
+-- flush it failed
+abbrev pub IsWrittenAs : Answered → Writes → Writes → Type 0
+IsWrittenAs (Ok status) writes writes_new = writes_new.unflushed ≡ []
+IsWrittenAs (Err io.Read) writes writes_new = Unit {0}
+IsWrittenAs (Err io.Write) writes writes_new = writes.failed < writes_new.failed
 
 -- the message that came first with its outcome, if a message did
 abbrev pub exchanges_of : Option First → List Exchange
@@ -60,3 +83,15 @@ module _ {P : Type 0} (heard : P → Account × Reads) (written : P → Option (
     pub first : Option First
     pub there : IsBetween peer gone first
     pub through : GoesThrough old new (exchanges_of first)
+
+  -- so it was, and its connection counts as what became of it
+  pub record AnswersOne (peer gone : P) (old new : Shown) (answered : Answered) : Type 0 where
+    pub answers : Answers peer gone old new
+    pub counts : CountsAs answers.first answered
+    pub cause : IsWrittenAs answered (written peer).1 (written gone).1
+
+  -- so it was in this visit
+  abbrev pub IsAnsweredAs : Visit P → Answered → Type 0
+  IsAnsweredAs visit answered =
+      IsAnsweredThere visit × CountsAs visit.first answered
+      × IsWrittenAs answered (written visit.before).1 (written visit.after).1

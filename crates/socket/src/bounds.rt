@@ -16,4 +16,4 @@ pub(crate) const BYTES_A_SECOND: u64 = 1_048_576;
 pub(crate) const REST_PATIENCE: u64 = 2;
 
 /// The most bytes after a message that are read and dropped.
-pub(crate) const MOST_DROPPED: u64 = 33_554_432;
+pub(crate) const MOST_DROPPED: usize = 33_554_432;

@@ -1,8 +1,9 @@
 //! One connection.
-ghost use Rattle.std.specs.Prelude.{◌≡◌, [], None, IfOk, IfErr};
+ghost use Rattle.std.specs.Prelude.{◌≡◌, [], None, true, IfOk, IfErr};
 ghost use Rattle.engine.specs.Causes.{AsksWhileUnfinished, IsCaused};
 ghost use Rattle.engine.specs.First.{ServesFirst, ServesHeard};
 ghost use Rattle.engine.specs.Isolated.{AnswersByItsShelf, AnswersHeardByItsShelf};
+ghost use Rattle.histories.specs.Stopping.{WaitsIf};
 ghost use Rattle.histories.specs.Timing.{KeepsTime};
 ghost use Rattle.socket.specs.Pace.{time_for_message};
 
@@ -16,7 +17,6 @@ use histories::{
 use std::alloc::Global;
 use std::io::{Read, Write};
 use std::marker::Brand;
-use std::time::Clock;
 use wire::RouteTable;
 use world::shelves::Shelves;
 
@@ -40,9 +40,8 @@ pub struct Answered<R, W> {
 ///
 /// `Io::Read`: a read failed, nothing was done, and nothing is written. `Io::Write`: a write or the flush failed; a
 /// beginning of the reply is written or all of it, and the shelves are as after the message.
-pub fn answer_in_time<C: Clock, R: BoundRead + Drop, W: BoundWrite + Drop, S: Shelves>(
+pub fn answer_in_time<R: BoundRead + Drop, W: BoundWrite + Drop, S: Shelves>(
     alloc: Global,
-    clock: &C,
     routes: &mut RouteTable,
     reader: Hearing<R>,
     writer: Telling<W>,
@@ -74,6 +73,9 @@ pub fn answer_in_time<C: Clock, R: BoundRead + Drop, W: BoundWrite + Drop, S: Sh
         (⟦<Hearing<R> as HasCalls>⟧.calls reader) (⟦<Hearing<R> as HasCalls>⟧.calls result.reader) }
     ensures writes_in_time { KeepsTime time_for_message
         (⟦<Telling<W> as HasCalls>⟧.calls writer) (⟦<Telling<W> as HasCalls>⟧.calls result.writer) }
+    // No wait of a read was ruled out.
+    ensures waits { WaitsIf true
+        (⟦<Hearing<R> as HasCalls>⟧.calls reader) (⟦<Hearing<R> as HasCalls>⟧.calls result.reader) }
     // The answer does not depend on the shelves that the caller does not see.
     ensures isolated_heard { AnswersHeardByItsShelf (S.shown shelves.old) (S.shown shelves.new)
         (⟦<Hearing<R> as Hear>⟧.account reader) (⟦<Hearing<R> as Hear>⟧.account result.reader)
@@ -83,20 +85,12 @@ pub fn answer_in_time<C: Clock, R: BoundRead + Drop, W: BoundWrite + Drop, S: Sh
         (⟦<Hearing<R> as Read>⟧.remaining reader)
         (⟦<Telling<W> as Write>⟧.contents writer) (⟦<Telling<W> as Write>⟧.contents result.writer) result.status }
 {
-    answer_since::<C, Brand, Brand, R, W, S>(alloc, clock, routes, reader, writer, shelves)
+    answer_since::<Brand, Brand, R, W, S>(alloc, routes, reader, writer, shelves)
 }
 
 /// Answers as `answer_in_time` does.
-fn answer_since<
-    C: Clock,
-    K: Start,
-    J: Start,
-    R: BoundRead + Drop,
-    W: BoundWrite + Drop,
-    S: Shelves,
->(
+fn answer_since<K: Start, J: Start, R: BoundRead + Drop, W: BoundWrite + Drop, S: Shelves>(
     alloc: Global,
-    clock: &C,
     routes: &mut RouteTable,
     reader: Hearing<R>,
     writer: Telling<W>,
@@ -104,6 +98,7 @@ fn answer_since<
 ) -> Answered<Hearing<R>, Telling<W>>
     requires reads { ⟦<Hearing<R> as HasCalls>⟧.calls reader ≡ K.calls }
     requires writes { ⟦<Telling<W> as HasCalls>⟧.calls writer ≡ J.calls }
+    requires may_wait { K.may_wait ≡ true }
     ensures heard { ServesHeard (S.shown shelves.old) (S.shown shelves.new)
         (⟦<Hearing<R> as Hear>⟧.account reader) (⟦<Hearing<R> as Hear>⟧.account result.reader)
         (⟦<Telling<W> as Write>⟧.contents writer) (⟦<Telling<W> as Write>⟧.contents result.writer) result.status }
@@ -118,9 +113,10 @@ fn answer_since<
     ensures flushed { IfOk result.status (λ _. (⟦<Telling<W> as Tell>⟧.writes result.writer).unflushed ≡ []) }
     ensures reads_in_time { KeepsTime time_for_message K.calls (⟦<Hearing<R> as HasCalls>⟧.calls result.reader) }
     ensures writes_in_time { KeepsTime time_for_message J.calls (⟦<Telling<W> as HasCalls>⟧.calls result.writer) }
+    ensures waits { WaitsIf true K.calls (⟦<Hearing<R> as HasCalls>⟧.calls result.reader) }
 {
-    let mut request: DeadlineReader<'_, C, ForMessage, K, R> = DeadlineReader::new(reader, clock);
-    let mut reply: DeadlineWriter<'_, C, ForMessage, J, W> = DeadlineWriter::new(writer, clock);
+    let mut request: DeadlineReader<ForMessage, K, R> = DeadlineReader::new(reader);
+    let mut reply: DeadlineWriter<ForMessage, J, W> = DeadlineWriter::new(writer);
     let status = answer_one(alloc, routes, &mut request, &mut reply, shelves);
     Answered {
         reader: request.into_inner(),
@@ -138,15 +134,18 @@ pub struct After<P> {
 
 /// A connected peer.
 pub trait Peer {
-    ghost use Rattle.std.specs.Prelude.{ℕ, List, [], ◌∷◌, Option, ◌≡◌, IfOk, IfErr};
+    ghost use Rattle.std.specs.Prelude.{ℕ, List, [], ◌∷◌, Option, true, ◌≡◌, IfOk, IfErr};
     ghost use Rattle.histories.specs.Account.{Account};
     ghost use Rattle.histories.specs.Calls.{Reads, Writes};
+    ghost use Rattle.histories.specs.Stopping.{WaitsIf};
     ghost use Rattle.histories.specs.Timing.{KeepsTime};
     ghost use Rattle.histories.specs.declared.call.Call.{Call};
     ghost use Rattle.histories.specs.declared.call.Call.TheVariants as call;
     ghost use Rattle.engine.specs.Causes.{AsksWhileUnfinished, IsCaused};
     ghost use Rattle.engine.specs.First.{ServesHeard};
+    ghost use Rattle.socket.specs.Connections.{both};
     ghost use Rattle.socket.specs.Pace.{time_for_message, time_for_rest};
+    ghost use Rattle.socket.specs.Rest.{DropsRest, leaves_rest};
 
     /// The bytes that came from it so far.
     ghost came: { Self → Account };
@@ -167,10 +166,9 @@ pub trait Peer {
     ghost write_calls: { Self → List Call };
 
     /// Answers its first message, and returns and fails as `engine::answer_one` does. The caller lends the router.
-    fn answer<C: Clock, S: Shelves>(
+    fn answer<S: Shelves>(
         self,
         alloc: Global,
-        clock: &C,
         routes: &mut RouteTable,
         shelves: &mut S,
     ) -> After<Self>
@@ -188,16 +186,22 @@ pub trait Peer {
         // No read, and no write, began after its time, waited longer than what was left of it, or was refused in it. No
         // write began after the writing side was shut.
         ensures reads_in_time { KeepsTime time_for_message (read_calls self) (read_calls result.peer) }
-        ensures writes_in_time { KeepsTime time_for_message (write_calls self) (write_calls result.peer) };
+        ensures writes_in_time { KeepsTime time_for_message (write_calls self) (write_calls result.peer) }
+        // No wait of a read was ruled out.
+        ensures waits { WaitsIf true (read_calls self) (read_calls result.peer) };
 
     /// Ends the connection after a reply with this status.
-    fn end<C: Clock>(self, clock: &C, status: u16) -> Self
+    fn end(self, status: u16) -> Self
     where
         Self: Sized,
         ensures written { written result ≡ written self }
+        // What still comes is read and dropped.
+        ensures drops { DropsRest (both came reads self) (both came reads result) }
         // So it is of what is still read. No write begins, and the system is asked once to shut the
         // writing side.
         ensures reads_in_time { KeepsTime time_for_rest (read_calls self) (read_calls result) }
+        // Reads wait only for what a peer still sends whose message may be only partly read.
+        ensures waits { WaitsIf (leaves_rest status) (read_calls self) (read_calls result) }
         ensures shuts { write_calls result ≡ call.Shuts ∷ write_calls self };
 }
 
@@ -214,15 +218,14 @@ impl<R: BoundRead + Drop, W: BoundWrite + Drop> Peer for Connection<R, W> {
 
     ghost write_calls = { λ p. ⟦<Telling<W> as HasCalls>⟧.calls p.writer };
 
-    fn answer<C: Clock, S: Shelves>(
+    fn answer<S: Shelves>(
         self,
         alloc: Global,
-        clock: &C,
         routes: &mut RouteTable,
         shelves: &mut S,
     ) -> After<Connection<R, W>> {
         let Connection { reader, writer } = self;
-        let answered = answer_in_time(alloc, clock, routes, reader, writer, shelves);
+        let answered = answer_in_time(alloc, routes, reader, writer, shelves);
         After {
             peer: Connection {
                 reader: answered.reader,
@@ -234,13 +237,11 @@ impl<R: BoundRead + Drop, W: BoundWrite + Drop> Peer for Connection<R, W> {
 
     /// Shuts the writing side, and drops what the peer sent after its message. Errors are ignored: the reply is
     /// written.
-    fn end<C: Clock>(self, clock: &C, status: u16) -> Connection<R, W> {
+    fn end(self, status: u16) -> Connection<R, W> {
         let Connection { reader, mut writer } = self;
-        if writer.shut().is_err() {
-            return Connection { reader, writer };
-        }
+        let _ = writer.shut();
         Connection {
-            reader: drop_rest(clock, reader, status),
+            reader: drop_rest(reader, status),
             writer,
         }
     }

@@ -1,7 +1,7 @@
 //! What is done where connections come in.
 ghost use Rattle.std.specs.Prelude.{◌≡◌, [], ◌∷◌, ◌++◌};
 ghost use Rattle.socket.specs.History.{took, took_peer};
-ghost use Rattle.socket.specs.declared.deed.Deed.TheVariants.{Ended};
+ghost use Rattle.socket.specs.declared.deed.Deed.TheVariants.{Left};
 
 use crate::callers::Caller;
 use std::io;
@@ -14,6 +14,15 @@ pub enum ListenOn {
     Port(u16),
     /// Standard input, which is a socket that listens already.
     Input,
+}
+
+/// How the next caller is looked for.
+#[derive(Clone, Copy, Debug, Drop, PartialEq, Eq)]
+pub enum Search {
+    /// Whoever comes next is waited for, however long that takes.
+    Waiting,
+    /// Nobody is waited for: only who has connected already is found.
+    AtOnce,
 }
 
 /// What was done where connections come in. Only what was done to the socket of operators has a name: its path.
@@ -31,40 +40,49 @@ pub enum Deed<C> {
     Removed,
     /// Nobody comes in any more.
     Closed,
-    /// This one was taken, as it came.
-    Taken(C),
-    /// A connection was to be taken, and was not.
-    Untaken,
+    /// This one was looked for so and taken, as it came.
+    Taken(Search, C),
+    /// A connection was looked for so, and could not be taken.
+    Untaken(Search),
     /// That of a peer was to be taken where no operator comes in, and was not.
     UntakenPeer,
-    /// The connection of this one was ended, as it was left.
+    /// This one was left, as it was then, after a reply that was written whole and had this status, or after none.
+    Left(C, Option<u16>),
+    /// The operator who was taken last is watched from then on, and no other.
+    Watched,
+    /// The connection of this one was ended, as it was then.
     Ended(C),
 }
 
-/// Notes that a connection was taken, or was not, and returns the result.
-pub fn note_taken<C: Drop>(noted: &mut Record<Deed<C>>, next: io::Result<C>) -> io::Result<C>
+/// Notes that a connection was looked for so and taken, or was not, and returns the result.
+pub fn note_taken<C: Drop>(
+    noted: &mut Record<Deed<C>>,
+    search: Search,
+    next: io::Result<C>,
+) -> io::Result<C>
     ensures same { result ≡ next }
-    ensures noted { noted.new.deeds ≡ noted.old.deeds ++ took next ∷ [] }
+    ensures noted { noted.new.deeds ≡ noted.old.deeds ++ took search next ∷ [] }
 {
     match next {
         Ok(caller) => {
-            let deed = Deed::Taken(caller);
+            let deed = Deed::Taken(search, caller);
             noted.note(b"", &deed);
             match deed {
-                Deed::Taken(caller) => Ok(caller),
-                Deed::Ended(_caller) => unreachable!(),
+                Deed::Taken(_, caller) => Ok(caller),
+                Deed::Left(_caller, _) | Deed::Ended(_caller) => unreachable!(),
                 Deed::Listens(_)
                 | Deed::Deaf(_)
                 | Deed::Made
                 | Deed::Unmade
                 | Deed::Removed
                 | Deed::Closed
-                | Deed::Untaken
-                | Deed::UntakenPeer => unreachable!(),
+                | Deed::Untaken(_)
+                | Deed::UntakenPeer
+                | Deed::Watched => unreachable!(),
             }
         }
         Err(error) => {
-            noted.note(b"", &Deed::Untaken);
+            noted.note(b"", &Deed::Untaken(search));
             Err(error)
         }
     }
@@ -80,20 +98,21 @@ pub fn note_peer<P: Drop, O: Drop>(
 {
     match next {
         Ok(peer) => {
-            let deed = Deed::Taken(Caller::Peer(peer));
+            let deed = Deed::Taken(Search::Waiting, Caller::Peer(peer));
             noted.note(b"", &deed);
             match deed {
-                Deed::Taken(Caller::Peer(peer)) => Ok(peer),
-                Deed::Taken(Caller::Operator(_operator)) => unreachable!(),
-                Deed::Ended(_caller) => unreachable!(),
+                Deed::Taken(_, Caller::Peer(peer)) => Ok(peer),
+                Deed::Taken(_, Caller::Operator(_operator)) => unreachable!(),
+                Deed::Left(_caller, _) | Deed::Ended(_caller) => unreachable!(),
                 Deed::Listens(_)
                 | Deed::Deaf(_)
                 | Deed::Made
                 | Deed::Unmade
                 | Deed::Removed
                 | Deed::Closed
-                | Deed::Untaken
-                | Deed::UntakenPeer => unreachable!(),
+                | Deed::Untaken(_)
+                | Deed::UntakenPeer
+                | Deed::Watched => unreachable!(),
             }
         }
         Err(error) => {
@@ -103,23 +122,24 @@ pub fn note_peer<P: Drop, O: Drop>(
     }
 }
 
-/// Notes that a connection is ended, and returns it.
-pub fn note_ended<C: Drop>(noted: &mut Record<Deed<C>>, caller: C) -> C
+/// Notes that a caller is left, after a reply with this status or after none, and returns it.
+pub fn note_left<C: Drop>(noted: &mut Record<Deed<C>>, caller: C, status: Option<u16>) -> C
     ensures same { result ≡ caller }
-    ensures noted { noted.new.deeds ≡ noted.old.deeds ++ ([], Ended caller) ∷ [] }
+    ensures noted { noted.new.deeds ≡ noted.old.deeds ++ ([], Left caller status) ∷ [] }
 {
-    let deed = Deed::Ended(caller);
+    let deed = Deed::Left(caller, status);
     noted.note(b"", &deed);
     match deed {
-        Deed::Ended(caller) => caller,
-        Deed::Taken(_caller) => unreachable!(),
+        Deed::Left(caller, _) => caller,
+        Deed::Taken(_, _caller) | Deed::Ended(_caller) => unreachable!(),
         Deed::Listens(_)
         | Deed::Deaf(_)
         | Deed::Made
         | Deed::Unmade
         | Deed::Removed
         | Deed::Closed
-        | Deed::Untaken
-        | Deed::UntakenPeer => unreachable!(),
+        | Deed::Untaken(_)
+        | Deed::UntakenPeer
+        | Deed::Watched => unreachable!(),
     }
 }

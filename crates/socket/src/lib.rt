@@ -44,7 +44,7 @@ mod system;
 
 pub use callers::{Caller, Callers};
 pub use connection::{After, Answered, Peer, answer_in_time};
-pub use deed::{Deed, ListenOn};
+pub use deed::{Deed, ListenOn, Search};
 pub use entrances::Entrances;
 pub use memory::MemoryEntrances;
 pub use serve::{serve_on, written_status};

@@ -2,7 +2,7 @@
 ghost use Rattle.std.specs.Prelude.{◌≡◌, [], ◌∷◌, reverse};
 
 use crate::callers::Caller;
-use crate::deed::ListenOn;
+use crate::deed::{ListenOn, Search};
 use crate::socket_file::SocketFile;
 use std::time::Duration;
 use store_files::record::Record;
@@ -45,8 +45,8 @@ pub enum Stage {
     Accepted,
     /// It was waited for and accepted, in one step.
     Awaited,
-    /// It is left: nothing more is written to it.
-    Left,
+    /// It is left: nothing more is written to it. This is the status of the reply that was written whole, if one was.
+    Left(Option<u16>),
     /// It was closed.
     HungUp,
 }
@@ -64,10 +64,10 @@ pub enum ListenerCall<C> {
     Unmade,
     /// The name of the socket was taken away, if it was still that of this file.
     Removed(Option<SocketFile>),
-    /// A poll waited at most so long, and named these.
-    Polled(Option<Duration>, Ready),
-    /// A poll failed.
-    Unpolled,
+    /// For a caller who is looked for so, a poll waited at most so long, and named these.
+    Polled(Search, Option<Duration>, Ready),
+    /// For a caller who is looked for so, a poll was to wait at most so long, and failed.
+    Unpolled(Search, Option<Duration>),
     /// An accept found nobody here.
     Nobody(Listener),
     /// An accept failed.
@@ -126,8 +126,8 @@ impl<C: Drop> CallLog<C> {
             | ListenerCall::Made(_)
             | ListenerCall::Unmade
             | ListenerCall::Removed(_)
-            | ListenerCall::Polled(_, _)
-            | ListenerCall::Unpolled
+            | ListenerCall::Polled(_, _, _)
+            | ListenerCall::Unpolled(_, _)
             | ListenerCall::Nobody(_)
             | ListenerCall::Unaccepted
             | ListenerCall::Unawaited

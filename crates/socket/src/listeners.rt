@@ -1,7 +1,7 @@
 //! The listeners of peers and operators.
 use crate::callers::Caller;
 use crate::connection::Peer;
-use crate::deed::ListenOn;
+use crate::deed::{ListenOn, Search};
 use crate::listener_call::{Listener, Ready};
 use crate::socket_file::SocketFile;
 use std::io;
@@ -13,6 +13,7 @@ use std::time::Duration;
 /// for nothing.
 pub trait Listeners<P: Peer, O: Peer> {
     ghost use Rattle.std.specs.Prelude.{◌≡◌, [], ◌∷◌, List, IfOk, IfSome};
+    ghost use Rattle.socket.specs.Connections.{both};
     ghost use Rattle.socket.specs.History.{IsBoundFor, IsUnheard};
     ghost use Rattle.socket.specs.Listening.{Asked, IsAt, accepted_at, awaited_as, bound_at, made_as, polled_for};
     ghost use Rattle.socket.specs.declared.callers.Caller.{Caller};
@@ -40,16 +41,17 @@ pub trait Listeners<P: Peer, O: Peer> {
 
     /// Returns who has connected since the last poll, and whether the operator who is watched has left. Waits for that
     /// at most so long, or as long as it takes. Where operators do not come in it names nobody, and fails if it would
-    /// wait as long as it takes. Fails if the system does.
-    fn look(&mut self, longest: Option<Duration>) -> io::Result<Ready>
-        ensures { calls self.new ≡ ([], polled_for longest result) ∷ calls self.old };
+    /// wait as long as it takes. Fails if the system does. How the next caller is looked for is only noted.
+    fn look(&mut self, search: Search, longest: Option<Duration>) -> io::Result<Ready>
+        ensures { calls self.new ≡ ([], polled_for search longest result) ∷ calls self.old };
 
     /// Returns a caller who has connected to this listener, or None if there is none, and waits for none. Fails if the
     /// connection can't be taken.
     fn accept_at(&mut self, at: Listener) -> io::Result<Option<Caller<P, O>>>
         ensures at { IfOk result (λ found. IfSome found (λ caller. IsAt at caller)) }
         ensures fresh { IfOk result (λ found. IfSome found (λ caller.
-            IsUnheard P.came P.written O.came O.written caller)) }
+            IsUnheard (both P.came P.read_calls) (both P.written P.write_calls)
+            (both O.came O.read_calls) (both O.written O.write_calls) caller)) }
         ensures noted { calls self.new ≡ ([], accepted_at at result) ∷ calls self.old };
 
     /// Has the next poll name this listener if somebody waits there, and returns whether it will.
@@ -64,17 +66,19 @@ pub trait Listeners<P: Peer, O: Peer> {
     /// Waits for the next peer, and returns it. Fails if its connection can't be taken, and where operators come in
     /// too.
     fn wait_for_peer(&mut self) -> io::Result<P>
-        ensures fresh { IfOk result (λ peer. IsUnheard P.came P.written O.came O.written (OfPeer peer)) }
+        ensures fresh { IfOk result (λ peer. IsUnheard (both P.came P.read_calls) (both P.written P.write_calls)
+            (both O.came O.read_calls) (both O.written O.write_calls) (OfPeer peer)) }
         ensures noted { calls self.new ≡ ([], awaited_as result) ∷ calls self.old };
 
     /// Notes that nobody is waited for any more, after the most polls.
     fn give_up(&mut self)
         ensures { calls self.new ≡ ([], call.GivenUp) ∷ calls self.old };
 
-    /// Notes that nothing more is written to a caller, and returns it.
-    fn leave(&mut self, caller: Caller<P, O>) -> Caller<P, O>
+    /// Notes that a caller is left, to whom nothing more is written, with the status of the reply that was written
+    /// whole, if one was. Returns the caller.
+    fn leave(&mut self, caller: Caller<P, O>, status: Option<u16>) -> Caller<P, O>
         ensures same { result ≡ caller }
-        ensures noted { calls self.new ≡ ([], call.Connection Left caller) ∷ calls self.old };
+        ensures noted { calls self.new ≡ ([], call.Connection (Left status) caller) ∷ calls self.old };
 
     /// Closes the connection of a caller.
     fn hang_up(&mut self, caller: Caller<P, O>)

@@ -1,15 +1,14 @@
 //! Callers in memory.
 ghost use Rattle.std.specs.Prelude.{◌≡◌, [], ◌∷◌, ◌++◌, Some, MatchResult};
 ghost use Rattle.socket.specs.Connections.{Come};
-ghost use Rattle.socket.specs.History.{Ends, callers_in};
+ghost use Rattle.socket.specs.History.{EndsOperator, EndsPeer, callers_in};
 ghost use Rattle.socket.specs.declared.callers.Caller.TheVariants.{Peer as OfPeer};
 
 use crate::callers::{Caller, Callers};
-use crate::deed::{Deed, ListenOn, note_ended, note_peer, note_taken};
+use crate::deed::{Deed, ListenOn, Search, note_left, note_peer, note_taken};
 use crate::entrances::Entrances;
 use std::collections::LinkedList;
 use std::io::{self, ErrorKind};
-use std::time::Clock;
 use store_files::record::Record;
 
 /// Peers and operators who come in one after another, all operators before the peers, and then nobody. One socket is
@@ -77,20 +76,21 @@ impl<'a, P: Drop, O: Drop> MemoryEntrances<'a, P, O> {
 }
 
 impl<'a, P: Drop, O: Drop> Callers<P, O> for MemoryEntrances<'a, P, O> {
-    ghost use Rattle.std.specs.Prelude.{false, Some};
+    ghost use Rattle.std.specs.Prelude.{◌≡◌, false, Some};
     ghost use Rattle.socket.specs.History.{callers_in};
 
     ghost waiting = { λ e. Some (callers_in e.operators e.peers) };
 
     ghost history = { λ e. e.noted.deeds };
 
-    ghost is_new = { λ _. Unit {0} };
+    /// A connection is ended as it was left.
+    ghost known = { record { is_new = λ _. Unit {0}; is_ended = λ peer status gone. gone ≡ peer } };
 
     ghost left = { λ _. false };
 
     fn next(&mut self) -> io::Result<Caller<P, O>> {
         let next = self.pop();
-        note_taken(&mut self.noted, next)
+        note_taken(&mut self.noted, Search::Waiting, next)
     }
 
     fn next_peer(&mut self) -> io::Result<P> {
@@ -103,24 +103,31 @@ impl<'a, P: Drop, O: Drop> Callers<P, O> for MemoryEntrances<'a, P, O> {
             return None;
         }
         let next = self.pop();
-        Some(note_taken(&mut self.noted, next))
+        Some(note_taken(&mut self.noted, Search::AtOnce, next))
     }
 
-    fn end_peer<C: Clock>(&mut self, _clock: &C, peer: P, _status: Option<u16>)
-        ensures { Ends (Some (callers_in self.old.operators self.old.peers), self.old.noted.deeds)
-            (Some (callers_in self.new.operators self.new.peers), self.new.noted.deeds) (Caller.Peer peer) }
+    fn end_peer(&mut self, peer: P, status: Option<u16>)
+        ensures { EndsPeer (λ peer status gone. gone ≡ peer)
+            (Some (callers_in self.old.operators self.old.peers), self.old.noted.deeds)
+            (Some (callers_in self.new.operators self.new.peers), self.new.noted.deeds) peer status }
     {
-        let _ended = note_ended(&mut self.noted, Caller::Peer(peer));
+        let left = note_left(&mut self.noted, Caller::Peer(peer), status);
+        let ended = Deed::Ended(left);
+        self.noted.note(b"", &ended);
     }
 
     fn end_operator(&mut self, operator: O)
-        ensures { Ends (Some (callers_in self.old.operators self.old.peers), self.old.noted.deeds)
-            (Some (callers_in self.new.operators self.new.peers), self.new.noted.deeds) (Caller.Operator operator) }
+        ensures { EndsOperator (Some (callers_in self.old.operators self.old.peers), self.old.noted.deeds)
+            (Some (callers_in self.new.operators self.new.peers), self.new.noted.deeds) operator }
     {
-        let _ended = note_ended(&mut self.noted, Caller::Operator(operator));
+        let left = note_left(&mut self.noted, Caller::Operator(operator), None);
+        let ended = Deed::Ended(left);
+        self.noted.note(b"", &ended);
     }
 
-    fn watch_operator(&mut self) {}
+    fn watch_operator(&mut self) {
+        self.noted.note(b"", &Deed::Watched);
+    }
 
     /// Nobody leaves.
     fn has_left(&self) -> bool {

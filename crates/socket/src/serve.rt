@@ -8,7 +8,6 @@ use crate::callers::Callers;
 use crate::connection::Peer;
 use engine::Io;
 use std::alloc::Global;
-use std::time::Clock;
 use wire::RouteTable;
 use world::shelves::Shelves;
 
@@ -19,43 +18,41 @@ use world::shelves::Shelves;
 /// It never fails. A connection that fails counts and is reported to nobody: if its message was not read whole, it
 /// changed nothing; if its reply failed, what the message did stays. An accept that fails counts too, so a server
 /// without descriptors ends.
-pub fn serve_on<C: Clock, P: Peer + Drop, O, L: Callers<P, O>, S: Shelves>(
+pub fn serve_on<P: Peer + Drop, O, L: Callers<P, O>, S: Shelves>(
     alloc: Global,
-    clock: &C,
     callers: &mut L,
     shelves: &mut S,
     connections: u32,
 )
     ensures most { GoesThroughMost (S.shown shelves.old) (S.shown shelves.new) connections }
     // As many connections are taken, or could not be. Each message is answered on the connection that it came over, and
-    // at most one on each, which is ended as it was left. If none is, or its reply is not written whole, a call of that
-    // connection failed.
-    ensures each { AnswersEach (both P.came P.reads) (both P.written P.writes) L.is_new
+    // at most one on each, which is then left with the status of the reply, if it was written whole, and ended by that.
+    // If none is, or its reply is not written whole, a call of that connection failed.
+    ensures each { AnswersEach (both P.came P.reads) (both P.written P.writes) L.known
         (both L.waiting L.history callers.old) (both L.waiting L.history callers.new)
         (S.shown shelves.old) (S.shown shelves.new) connections }
 {
     let mut routes = RouteTable::new(alloc);
     for _ in 0..connections {
-        serve_next(alloc, clock, &mut routes, callers, shelves);
+        serve_next(alloc, &mut routes, callers, shelves);
     }
 }
 
 /// Takes the next connection, answers the first message that comes over it, and ends it.
-fn serve_next<C: Clock, P: Peer + Drop, O, L: Callers<P, O>, S: Shelves>(
+fn serve_next<P: Peer + Drop, O, L: Callers<P, O>, S: Shelves>(
     alloc: Global,
-    clock: &C,
     routes: &mut RouteTable,
     callers: &mut L,
     shelves: &mut S,
 )
-    ensures { AnswersNext (both P.came P.reads) (both P.written P.writes) L.is_new
+    ensures { AnswersNext (both P.came P.reads) (both P.written P.writes) L.known
         (both L.waiting L.history callers.old) (both L.waiting L.history callers.new)
         (S.shown shelves.old) (S.shown shelves.new) }
 {
     match callers.next_peer() {
         Ok(peer) => {
-            let after = peer.answer(alloc, clock, routes, shelves);
-            callers.end_peer(clock, after.peer, written_status(after.status));
+            let after = peer.answer(alloc, routes, shelves);
+            callers.end_peer(after.peer, written_status(after.status));
         }
         Err(_) => {}
     }

@@ -1,5 +1,6 @@
 //! A port for peers and a socket for operators, which one thread waits on.
 ghost use Rattle.std.specs.Prelude.{IfOk, IfSome};
+ghost use Rattle.socket.specs.Connections.{both};
 ghost use Rattle.socket.specs.History.{IsUnheard};
 ghost use Rattle.socket.specs.Listening.{IsAt};
 ghost use Rattle.socket.specs.declared.listener_call.Listener.TheVariants.{Operators, Peers};
@@ -18,14 +19,20 @@ use std::os::unix::net::{UnixListener, UnixStream};
 use std::rt::HostRuntime;
 use std::time::Duration;
 
-/// A peer of a port.
-pub type SystemPeer = Connection<Socket<TcpStream>, Socket<TcpStream>>;
+/// A peer of a port, whose time is told by the clock of the system.
+pub type SystemPeer<'h> = Connection<
+    Socket<'h, TcpStream, HostRuntime>,
+    Socket<'h, TcpStream, HostRuntime>,
+>;
 
-/// An operator of a Unix socket.
-pub type SystemOperator = Connection<Socket<UnixStream>, Socket<UnixStream>>;
+/// An operator of a Unix socket, whose time is too.
+pub type SystemOperator<'h> = Connection<
+    Socket<'h, UnixStream, HostRuntime>,
+    Socket<'h, UnixStream, HostRuntime>,
+>;
 
 /// A peer of a port, or an operator of a Unix socket.
-pub type SystemCaller = Caller<SystemPeer, SystemOperator>;
+pub type SystemCaller<'h> = Caller<SystemPeer<'h>, SystemOperator<'h>>;
 
 const PEERS: Token = Token(0);
 
@@ -87,16 +94,21 @@ impl Sockets {
     }
 
     /// Returns an operator who has connected, or None if there is none. Fails if the system does.
-    pub(crate) fn accept_operator(&mut self) -> io::Result<Option<SystemCaller>>
+    pub(crate) fn accept_operator<'h>(
+        &mut self,
+        rt: &'h HostRuntime,
+    ) -> io::Result<Option<SystemCaller<'h>>>
         ensures at { IfOk result (λ found. IfSome found (λ caller. IsAt Operators caller)) }
         ensures fresh { IfOk result (λ found. IfSome found (λ caller. IsUnheard
-            ⟦<SystemPeer as Peer>⟧.came ⟦<SystemPeer as Peer>⟧.written
-            ⟦<SystemOperator as Peer>⟧.came ⟦<SystemOperator as Peer>⟧.written caller)) }
+            (both ⟦<SystemPeer<'h> as Peer>⟧.came ⟦<SystemPeer<'h> as Peer>⟧.read_calls)
+            (both ⟦<SystemPeer<'h> as Peer>⟧.written ⟦<SystemPeer<'h> as Peer>⟧.write_calls)
+            (both ⟦<SystemOperator<'h> as Peer>⟧.came ⟦<SystemOperator<'h> as Peer>⟧.read_calls)
+            (both ⟦<SystemOperator<'h> as Peer>⟧.written ⟦<SystemOperator<'h> as Peer>⟧.write_calls) caller)) }
     {
         match self.operators.accept() {
             Ok((stream, _)) => {
                 self.taken = stream.as_raw_fd();
-                Ok(Some(Caller::Operator(over_unix(stream)?)))
+                Ok(Some(Caller::Operator(over_unix(stream, rt)?)))
             }
             Err(e) if e.kind() == ErrorKind::WouldBlock => Ok(None),
             Err(e) => Err(e),
@@ -104,14 +116,19 @@ impl Sockets {
     }
 
     /// Returns a peer who has connected, or None if there is none. Fails if the system does.
-    pub(crate) fn accept_peer(&mut self) -> io::Result<Option<SystemCaller>>
+    pub(crate) fn accept_peer<'h>(
+        &mut self,
+        rt: &'h HostRuntime,
+    ) -> io::Result<Option<SystemCaller<'h>>>
         ensures at { IfOk result (λ found. IfSome found (λ caller. IsAt Peers caller)) }
         ensures fresh { IfOk result (λ found. IfSome found (λ caller. IsUnheard
-            ⟦<SystemPeer as Peer>⟧.came ⟦<SystemPeer as Peer>⟧.written
-            ⟦<SystemOperator as Peer>⟧.came ⟦<SystemOperator as Peer>⟧.written caller)) }
+            (both ⟦<SystemPeer<'h> as Peer>⟧.came ⟦<SystemPeer<'h> as Peer>⟧.read_calls)
+            (both ⟦<SystemPeer<'h> as Peer>⟧.written ⟦<SystemPeer<'h> as Peer>⟧.write_calls)
+            (both ⟦<SystemOperator<'h> as Peer>⟧.came ⟦<SystemOperator<'h> as Peer>⟧.read_calls)
+            (both ⟦<SystemOperator<'h> as Peer>⟧.written ⟦<SystemOperator<'h> as Peer>⟧.write_calls) caller)) }
     {
         match self.peers.accept() {
-            Ok((stream, _)) => Ok(Some(Caller::Peer(over_tcp(stream)?))),
+            Ok((stream, _)) => Ok(Some(Caller::Peer(over_tcp(stream, rt)?))),
             Err(e) if e.kind() == ErrorKind::WouldBlock => Ok(None),
             Err(e) => Err(e),
         }

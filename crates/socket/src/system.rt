@@ -1,11 +1,12 @@
 //! The port, standard input and the Unix socket of the system, where callers come in.
 ghost use Rattle.std.specs.Prelude.{◌≡◌, [], ◌∷◌, IfOk, IfSome, reverse};
+ghost use Rattle.socket.specs.Connections.{both};
 ghost use Rattle.socket.specs.History.{IsBoundFor, IsUnheard};
 ghost use Rattle.socket.specs.Listening.{IsAt};
 
 use crate::callers::{Caller, Callers};
 use crate::connection::Peer;
-use crate::deed::ListenOn;
+use crate::deed::{ListenOn, Search};
 use crate::listener_call::{CallLog, Listener, ListenerCall, Ready, Stage};
 use crate::listeners::Listeners;
 use crate::listening::{listener_at, next_stream};
@@ -21,12 +22,16 @@ use std::rt::HostRuntime;
 use std::time::Duration;
 
 /// Where callers of the system come in.
-pub type SystemEntrances<'a> = PolledEntrances<SystemPeer, SystemOperator, SystemListeners<'a>>;
+pub type SystemEntrances<'a> = PolledEntrances<
+    SystemPeer<'a>,
+    SystemOperator<'a>,
+    SystemListeners<'a>,
+>;
 
-impl<'a> PolledEntrances<SystemPeer, SystemOperator, SystemListeners<'a>> {
+impl<'a> PolledEntrances<SystemPeer<'a>, SystemOperator<'a>, SystemListeners<'a>> {
     /// Returns entrances of which none is open, and at which nothing was done.
     pub fn new(rt: &'a HostRuntime) -> SystemEntrances<'a>
-        ensures { ⟦<SystemEntrances<'a> as Callers<SystemPeer, SystemOperator>>⟧.history result ≡ [] }
+        ensures { ⟦<SystemEntrances<'a> as Callers<SystemPeer<'a>, SystemOperator<'a>>>⟧.history result ≡ [] }
     {
         PolledEntrances::over(SystemListeners::new(rt))
     }
@@ -38,13 +43,13 @@ impl<'a> PolledEntrances<SystemPeer, SystemOperator, SystemListeners<'a>> {
 pub struct SystemListeners<'a> {
     rt: &'a HostRuntime,
     open: Open,
-    log: CallLog<SystemCaller>,
+    log: CallLog<SystemCaller<'a>>,
 }
 
 impl<'a> SystemListeners<'a> {
     /// Returns listeners of which none is open, and of which nothing was asked.
     fn new(rt: &'a HostRuntime) -> SystemListeners<'a>
-        ensures { ⟦<SystemListeners<'a> as Listeners<SystemPeer, SystemOperator>>⟧.calls result ≡ [] }
+        ensures { ⟦<SystemListeners<'a> as Listeners<SystemPeer<'a>, SystemOperator<'a>>>⟧.calls result ≡ [] }
     {
         SystemListeners {
             rt,
@@ -97,35 +102,44 @@ impl Open {
 
     /// Returns a caller who has connected to a listener, or None if there is none. Finds none where not both may come
     /// in. Fails if the system does.
-    fn accept_at(&mut self, at: Listener) -> io::Result<Option<SystemCaller>>
+    fn accept_at<'h>(
+        &mut self,
+        rt: &'h HostRuntime,
+        at: Listener,
+    ) -> io::Result<Option<SystemCaller<'h>>>
         ensures at { IfOk result (λ found. IfSome found (λ caller. IsAt at caller)) }
         ensures fresh { IfOk result (λ found. IfSome found (λ caller. IsUnheard
-            ⟦<SystemPeer as Peer>⟧.came ⟦<SystemPeer as Peer>⟧.written
-            ⟦<SystemOperator as Peer>⟧.came ⟦<SystemOperator as Peer>⟧.written caller)) }
+            (both ⟦<SystemPeer<'h> as Peer>⟧.came ⟦<SystemPeer<'h> as Peer>⟧.read_calls)
+            (both ⟦<SystemPeer<'h> as Peer>⟧.written ⟦<SystemPeer<'h> as Peer>⟧.write_calls)
+            (both ⟦<SystemOperator<'h> as Peer>⟧.came ⟦<SystemOperator<'h> as Peer>⟧.read_calls)
+            (both ⟦<SystemOperator<'h> as Peer>⟧.written ⟦<SystemOperator<'h> as Peer>⟧.write_calls) caller)) }
     {
         match self {
             Open::ToBoth(sockets) => match at {
-                Listener::Peers => sockets.accept_peer(),
-                Listener::Operators => sockets.accept_operator(),
+                Listener::Peers => sockets.accept_peer(rt),
+                Listener::Operators => sockets.accept_operator(rt),
             },
             _ => Ok(None),
         }
     }
 
     /// Waits for the next peer. Fails if the system does, and where others may come in.
-    fn wait_for_peer(&mut self, rt: &HostRuntime) -> io::Result<SystemPeer>
+    fn wait_for_peer<'h>(&mut self, rt: &'h HostRuntime) -> io::Result<SystemPeer<'h>>
         ensures { IfOk result (λ peer. IsUnheard
-            ⟦<SystemPeer as Peer>⟧.came ⟦<SystemPeer as Peer>⟧.written
-            ⟦<SystemOperator as Peer>⟧.came ⟦<SystemOperator as Peer>⟧.written (Caller.Peer peer)) }
+            (both ⟦<SystemPeer<'h> as Peer>⟧.came ⟦<SystemPeer<'h> as Peer>⟧.read_calls)
+            (both ⟦<SystemPeer<'h> as Peer>⟧.written ⟦<SystemPeer<'h> as Peer>⟧.write_calls)
+            (both ⟦<SystemOperator<'h> as Peer>⟧.came ⟦<SystemOperator<'h> as Peer>⟧.read_calls)
+            (both ⟦<SystemOperator<'h> as Peer>⟧.written ⟦<SystemOperator<'h> as Peer>⟧.write_calls)
+            (Caller.Peer peer)) }
     {
         match self {
-            Open::ToPeers(peers) => over_tcp(next_stream(rt, peers)?),
+            Open::ToPeers(peers) => over_tcp(next_stream(rt, peers)?, rt),
             _ => Err(io::Error::from(ErrorKind::NotConnected)),
         }
     }
 }
 
-impl<'a> Listeners<SystemPeer, SystemOperator> for SystemListeners<'a> {
+impl<'a> Listeners<SystemPeer<'a>, SystemOperator<'a>> for SystemListeners<'a> {
     ghost use Rattle.std.specs.Prelude.{reverse};
 
     ghost calls = { λ s. reverse s.log.noted.deeds };
@@ -164,21 +178,22 @@ impl<'a> Listeners<SystemPeer, SystemOperator> for SystemListeners<'a> {
         }
     }
 
-    fn look(&mut self, longest: Option<Duration>) -> io::Result<Ready> {
+    fn look(&mut self, search: Search, longest: Option<Duration>) -> io::Result<Ready> {
         match self.open.look(longest) {
             Ok(seen) => {
-                self.log.note(b"", &ListenerCall::Polled(longest, seen));
+                self.log
+                    .note(b"", &ListenerCall::Polled(search, longest, seen));
                 Ok(seen)
             }
             Err(error) => {
-                self.log.note(b"", &ListenerCall::Unpolled);
+                self.log.note(b"", &ListenerCall::Unpolled(search, longest));
                 Err(error)
             }
         }
     }
 
-    fn accept_at(&mut self, at: Listener) -> io::Result<Option<SystemCaller>> {
-        match self.open.accept_at(at) {
+    fn accept_at(&mut self, at: Listener) -> io::Result<Option<SystemCaller<'a>>> {
+        match self.open.accept_at(self.rt, at) {
             Ok(Some(caller)) => Ok(Some(self.log.note_step(Stage::Accepted, caller))),
             Ok(None) => {
                 self.log.note(b"", &ListenerCall::Nobody(at));
@@ -207,7 +222,7 @@ impl<'a> Listeners<SystemPeer, SystemOperator> for SystemListeners<'a> {
         }
     }
 
-    fn wait_for_peer(&mut self) -> io::Result<SystemPeer> {
+    fn wait_for_peer(&mut self) -> io::Result<SystemPeer<'a>> {
         match self.open.wait_for_peer(self.rt) {
             Ok(peer) => Ok(self.log.note_peer(Stage::Awaited, peer)),
             Err(error) => {
@@ -221,17 +236,17 @@ impl<'a> Listeners<SystemPeer, SystemOperator> for SystemListeners<'a> {
         self.log.note(b"", &ListenerCall::GivenUp);
     }
 
-    fn leave(&mut self, caller: SystemCaller) -> SystemCaller
-        ensures same { result ≡ caller }
+    fn leave(&mut self, caller: SystemCaller<'a>, status: Option<u16>) -> SystemCaller<'a>
+        ensures same { result ≡ caller.entry }
         ensures noted { reverse self.new.log.noted.deeds
-            ≡ ([], ListenerCall.Connection Stage.Left caller) ∷ reverse self.old.log.noted.deeds }
+            ≡ ([], ListenerCall.Connection (Stage.Left status) caller.entry) ∷ reverse self.old.log.noted.deeds }
     {
-        self.log.note_step(Stage::Left, caller)
+        self.log.note_step(Stage::Left(status), caller)
     }
 
-    fn hang_up(&mut self, caller: SystemCaller)
+    fn hang_up(&mut self, caller: SystemCaller<'a>)
         ensures { reverse self.new.log.noted.deeds
-            ≡ ([], ListenerCall.Connection Stage.HungUp caller) ∷ reverse self.old.log.noted.deeds }
+            ≡ ([], ListenerCall.Connection Stage.HungUp caller.entry) ∷ reverse self.old.log.noted.deeds }
     {
         let _gone = self.log.note_step(Stage::HungUp, caller);
     }

@@ -24,7 +24,7 @@ use Rattle.older_rows.specs.Filled.{Migrates as WritesWorld}
 use Rattle.cache.specs.Caches.{IsNothing}
 use Rattle.store.specs.Shown.{shown_with}
 use Rattle.store.specs.Migrated.{IsForeign, IsVastOlder, IsOldOr, SaysOfMigration, MigratesAt, Migrates, HasCauseInOne}
-use Rattle.setup.specs.Opened.{IsOfOpening}
+use Rattle.store_files.specs.Refusal.{IsOfOpening}
 use Rattle.cache.specs.declared.caches.Caches.{Caches}
 use Rattle.store_files.specs.declared.refusal.StoreRefusal.{StoreRefusal}
 use Rattle.store_files.specs.declared.refusal.StoreRefusal.TheVariants as refusal

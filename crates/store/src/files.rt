@@ -8,7 +8,7 @@ ghost use Rattle.sqlite.specs.State.{HasCleanDisk};
 ghost use Rattle.sqlite_std_file.specs.File.{file_is_usable, IsFresh};
 ghost use Rattle.sqlite_store.specs.FileStore.{view};
 ghost use Rattle.sqlite_wal.specs.Reads.{AreClean, IsClean, OnlyReads};
-ghost use Rattle.setup.specs.Opened.{IsOfOpening};
+ghost use Rattle.store_files.specs.Refusal.{IsOfOpening};
 ghost use Rattle.store.specs.Names.{IsNoFileName};
 ghost use Rattle.store.specs.Restart.{HoldsNoDatabase, HoldsNoFile, IsOddByte, IsStray};
 

@@ -4,7 +4,7 @@ ghost use Rattle.std.specs.Prelude.{◌≡◌, IfOk, IfErr, IfSome, IsSomeAnd, I
 ghost use Rattle.sqlite.specs.Files.{image_of, IsCleanLeft};
 ghost use Rattle.sqlite_wal.specs.Files.{image_at, outcomes};
 ghost use Rattle.sqlite_wal.specs.Reads.{AreClean, OnlyReads};
-ghost use Rattle.setup.specs.Opened.{IsOfOpening};
+ghost use Rattle.store_files.specs.Refusal.{IsOfOpening};
 ghost use Rattle.store.specs.Restart.{HoldsNoStore, Keeps};
 ghost use Rattle.store.specs.Still.{AreStill};
 

@@ -5,7 +5,7 @@ ghost use Rattle.sqlite.specs.Files.{file_state, image_of, IsCleanLeft};
 ghost use Rattle.sqlite.specs.State.{HasCleanDisk};
 ghost use Rattle.sqlite_wal.specs.Files.{image_at, outcomes};
 ghost use Rattle.store.specs.Shown.{shown_with, BeginsAt};
-ghost use Rattle.setup.specs.Opened.{IsOfOpening};
+ghost use Rattle.store_files.specs.Refusal.{IsOfOpening};
 ghost use Rattle.store.specs.Names.{IsNoFileName};
 ghost use Rattle.store.specs.Restart.{HoldsStore, HoldsNoStore, IsStray, RecoversStore, Keeps};
 

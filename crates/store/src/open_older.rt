@@ -7,7 +7,7 @@ ghost use Rattle.sqlite_wal.specs.Files.{image_at};
 ghost use Rattle.statements.specs.Calls.{IsOpenIfHonest};
 ghost use Rattle.store.specs.Older.{FindsOlder};
 ghost use Rattle.store.specs.Restart.{Keeps};
-ghost use Rattle.setup.specs.Opened.{IsOfOpening};
+ghost use Rattle.store_files.specs.Refusal.{IsOfOpening};
 
 use crate::files::{PageRoom, connect_files, open_pair};
 use sqlite::{Connection, FileFrom, FileStore, Leftover, Start};

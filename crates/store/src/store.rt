@@ -13,7 +13,8 @@ ghost use Rattle.cache.specs.Caches.{IsNothing, WeighsAtMost};
 ghost use Rattle.outline.specs.Seen.{seen_heading};
 ghost use Rattle.tables.specs.Calls.{Honestly};
 ghost use Rattle.tables.specs.Causes.{IsHindered, IsVast};
-ghost use Rattle.setup.specs.Opened.{Opens, IsBad, LeavesFirst, IsOfOpening};
+ghost use Rattle.setup.specs.Opened.{Opens, IsBad, LeavesFirst};
+ghost use Rattle.store_files.specs.Refusal.{IsOfOpening};
 
 use crate::chain::Chain;
 use crate::seen::{heading_in, with_zip};

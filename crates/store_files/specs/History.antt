@@ -4,6 +4,7 @@ use Rattle.store_files.specs.declared.files.Deed.{Deed}
 use Rattle.store_files.specs.declared.files.Deed.TheVariants.{Opened, Refused, Closed}
 use Rattle.store_files.specs.declared.files.Use.{Use}
 use Rattle.store_files.specs.declared.refusal.StoreRefusal.{StoreRefusal}
+use Rattle.store_files.specs.Refusal.{IsOfOpening}
 
 -- a deed, with the name of its file
 abbrev pub Done : Type 0 → Type 0
@@ -22,9 +23,11 @@ module _ {S C : Type 0} (files : Span S C) where
   abbrev pub IsIdle : Type 0
   IsIdle = files.after ≡ files.before
 
-  -- the store of this file was not opened, for this reason, and nothing else was done to any file
-  abbrev pub Refuses : List ℕ → StoreRefusal → Type 0
-  Refuses name why = files.after ≡ files.before ++ (name, Refused why) ∷ []
+  -- The store of this file was not opened, for this reason, which is one of an opening. Nothing else was done to any
+  -- file.
+  pub record Refuses (name : List ℕ) (why : StoreRefusal) : Type 0 where
+    pub opening : IsOfOpening why
+    pub done : files.after ≡ files.before ++ (name, Refused why) ∷ []
 
   -- The store of this file was opened once, for this purpose, this was done with it, and it was closed in the state that
   -- it then had. Nothing else was done to any file.

@@ -1,6 +1,7 @@
 //! What is asked of files.
 ghost use Rattle.std.specs.Prelude.{◌≡◌, [], ◌∷◌, ◌++◌, IfOk, IfErr};
 ghost use Rattle.store_files.specs.History.{Done};
+ghost use Rattle.store_files.specs.Refusal.{IsOfOpening};
 ghost use Rattle.store_files.specs.declared.files.Deed.TheVariants.{Closed, Looked, Opened, Refused};
 
 use crate::refusal::StoreRefusal;
@@ -14,10 +15,16 @@ pub enum Deed<C> {
     Opened(Use),
     /// Its store was to be opened, and was not, for this reason.
     Refused(StoreRefusal),
+    /// Its store was opened, also to be written to, and it lost its name before anything else was done.
+    OpenedUnnamed,
+    /// Its store was to be opened, and was not, for this reason, and it lost its name.
+    RefusedUnnamed(StoreRefusal),
     /// Its store was closed, and this was left of it.
     Closed(C),
     /// It and its log were read, and copied into files that were made for that.
     Copied,
+    /// Files were made beside it, in its folder.
+    Joined,
     /// It was made, and no file had its name before.
     Made,
     /// It lost its name.
@@ -64,7 +71,8 @@ pub trait StoreFiles<S, C> {
     fn open<'n>(&mut self, name: &'n str, purpose: Use) -> Result<OpenFile<'n, S>, StoreRefusal>
         ensures begun { IfOk result (λ file. begins file.store × (file.name.now ≡ name.now)) }
         ensures opened { IfOk result (λ _. history self.new ≡ history self.old ++ (name.now, Opened purpose) ∷ []) }
-        ensures refused { IfErr result (λ why. history self.new ≡ history self.old ++ (name.now, Refused why) ∷ []) };
+        ensures refused { IfErr result (λ why. history self.new ≡ history self.old ++ (name.now, Refused why) ∷ []) }
+        ensures opening { IfErr result IsOfOpening };
 
     /// Closes the store of a file, as it is now.
     fn close<'n>(&mut self, file: OpenFile<'n, S>)

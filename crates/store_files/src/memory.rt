@@ -11,26 +11,18 @@ use crate::refusal::StoreRefusal;
 pub struct MemoryStoreFiles<'a, S> {
     name: &'a str,
     other: &'a str,
-    /// Why a store is not opened: there is no such file, or it is open.
-    refusal: StoreRefusal,
     held: Option<S>,
     noted: Record<Deed<S>>,
 }
 
 impl<'a, S: Drop> MemoryStoreFiles<'a, S> {
     /// Returns a file of this name with a store, and another file that has bytes. Nothing was done to either.
-    pub fn new(
-        name: &'a str,
-        other: &'a str,
-        store: S,
-        refusal: StoreRefusal,
-    ) -> MemoryStoreFiles<'a, S>
+    pub fn new(name: &'a str, other: &'a str, store: S) -> MemoryStoreFiles<'a, S>
         ensures { ⟦<MemoryStoreFiles<'a, S> as StoreFiles<S, S>>⟧.history result ≡ [] }
     {
         MemoryStoreFiles {
             name,
             other,
-            refusal,
             held: Some(store),
             noted: Record::new(),
         }
@@ -50,6 +42,7 @@ impl<'a, S: Drop> StoreFiles<S, S> for MemoryStoreFiles<'a, S> {
         holds
     }
 
+    /// Fails with `Device` if there is no such file, or it is open.
     fn open<'n>(&mut self, name: &'n str, purpose: Use) -> Result<OpenFile<'n, S>, StoreRefusal> {
         if name == self.name {
             if let Some(store) = self.held.take() {
@@ -57,9 +50,9 @@ impl<'a, S: Drop> StoreFiles<S, S> for MemoryStoreFiles<'a, S> {
                 return Ok(OpenFile { store, name });
             }
         }
-        self.noted
-            .note(name.as_bytes(), &Deed::Refused(self.refusal));
-        Err(self.refusal)
+        let refusal = StoreRefusal::Device;
+        self.noted.note(name.as_bytes(), &Deed::Refused(refusal));
+        Err(refusal)
     }
 
     fn close<'n>(&mut self, file: OpenFile<'n, S>)

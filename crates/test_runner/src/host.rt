@@ -111,7 +111,7 @@ impl<'a> Host<MapShelves, MapShelves> for MemoryHost<'a> {
         Q: OlderFiles<MapShelves>,
         G: StoreFiles<MapShelves, MapShelves>,
     {
-        Err(CommandRefusal::NotEmpty)
+        Err(CommandRefusal::Device)
     }
 
     fn order_new<R: Hear, U: Tell, V: Servers<R, U>, O: Tell>(

@@ -53,7 +53,14 @@ impl OlderFiles<MapShelves> for NoOlderFiles {
         Err(StoreRefusal::Device)
     }
 
-    fn unlink(&mut self, name: &str) {
-        self.noted.note(name.as_bytes(), &Deed::Unlinked);
+    fn open_unnamed<'n>(
+        &mut self,
+        copy: &'n TemporaryFiles,
+    ) -> Result<OpenFile<'n, MapShelves>, StoreRefusal> {
+        let refusal = StoreRefusal::Device;
+        self.noted
+            .note(copy.path.as_bytes(), &Deed::RefusedUnnamed(refusal));
+        self.noted.note(copy.log.as_bytes(), &Deed::Unlinked);
+        Err(refusal)
     }
 }

@@ -18,7 +18,6 @@ use std::test::Fail;
 use store_files::files::StoreFiles;
 use store_files::memory::MemoryStoreFiles;
 use store_files::record::Record;
-use store_files::refusal::StoreRefusal;
 use test_support::rows::cell;
 use world::entry::Right;
 
@@ -38,7 +37,7 @@ key-add | shelves.db | alpha | alphakey00000001 | taken
 inventory | shelves.db | | betakey000000001 | no-key
 inventory | shelves.db | | alphakey00000001 | done
 extract | shelves.db | alpha | | not-empty
-migrate | shelves.db | | | not-empty
+migrate | shelves.db | | | device
 order | shelves.db | alpha | | device
 order | serve.socket | alpha | | taken
 copy | shelves.db | | | device
@@ -146,11 +145,11 @@ fn commands_run_on_the_store_that_the_last_one_closed(rt: HostRuntime) -> Result
     let Ok(shelves) = MapShelves::new(rt.alloc()) else {
         return Err(Fail::from("no memory"));
     };
-    let mut files = MemoryStoreFiles::new("shelves.db", "bytes.db", shelves, StoreRefusal::Device);
+    let mut files = MemoryStoreFiles::new("shelves.db", "bytes.db", shelves);
     let Ok(none) = MapShelves::new(rt.alloc()) else {
         return Err(Fail::from("no memory"));
     };
-    let mut targets = MemoryStoreFiles::new("new.db", "other.db", none, StoreRefusal::Device);
+    let mut targets = MemoryStoreFiles::new("new.db", "other.db", none);
     let mut older = NoOlderFiles {
         noted: Record::new(),
     };

@@ -46,7 +46,7 @@ fn serve_two<S: Shelves + Drop>(
     mut shelves: S,
     entrances: &mut SystemEntrances<'_>,
 ) {
-    serve_on(rt.alloc(), rt, entrances, &mut shelves, 2);
+    serve_on(rt.alloc(), entrances, &mut shelves, 2);
     entrances.close();
 }
 
@@ -71,21 +71,16 @@ fn answers_one_request_on_each_of_two_connections(rt: HostRuntime) -> Result<(),
 
 #[test]
 fn connections_that_nobody_makes_count(rt: HostRuntime) -> Result<(), Fail> {
-    let mut entrances: MemoryEntrances<'_, SystemPeer, SystemOperator> = MemoryEntrances::new(
-        "serve.socket",
-        LinkedList::new(rt.alloc()),
-        LinkedList::new(rt.alloc()),
-    );
+    let mut entrances: MemoryEntrances<'_, SystemPeer<'_>, SystemOperator<'_>> =
+        MemoryEntrances::new(
+            "serve.socket",
+            LinkedList::new(rt.alloc()),
+            LinkedList::new(rt.alloc()),
+        );
     assert!(rt; entrances.listen(ListenOn::Port(0))? == ListenOn::Port(8080));
     assert!(rt; entrances.make_socket("serve.socket").is_err());
     assert!(rt; entrances.make_socket("other.socket").is_ok());
-    serve_on(
-        rt.alloc(),
-        &rt,
-        &mut entrances,
-        &mut shelves(rt.alloc())?,
-        2,
-    );
+    serve_on(rt.alloc(), &mut entrances, &mut shelves(rt.alloc())?, 2);
     entrances.remove_socket("other.socket");
     entrances.close();
     assert!(rt; entrances.next_waiting().is_none());

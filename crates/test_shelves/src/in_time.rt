@@ -2,13 +2,13 @@
 use crate::connections::{PUBLISHED, PUT};
 use crate::shelves::shelves;
 use engine::Io;
-use histories::{Ask, Asks, BoundRead, BoundWrite, Hearing, Telling};
+use histories::{BoundRead, BoundWrite, ClockFace, Hearing, Socket, Telling, WaitBounds};
 use socket::answer_in_time;
 use std::alloc::Global;
 use std::cell::Cell;
 use std::io::{self, Read, Write};
 use std::test::Fail;
-use std::time::{Clock, Duration};
+use std::time::{Clock, Duration, Instant};
 use test_support::doubles::Sink;
 use wire::RouteTable;
 use world::shelves::Shelves;
@@ -32,6 +32,12 @@ impl Clock for Steps {
     }
 }
 
+impl ClockFace for Steps {
+    fn now(&self) -> io::Result<Instant> {
+        Instant::now(self)
+    }
+}
+
 /// Returns a clock that starts at some time.
 fn clock(step: u64) -> Steps {
     Steps {
@@ -40,32 +46,16 @@ fn clock(step: u64) -> Steps {
     }
 }
 
-/// A stream that never waits. It keeps how long its last call might have waited, and what it was asked.
+/// A stream that never waits. It keeps how long its last call might have waited.
 #[derive(Drop)]
 struct Bounded<'a, T> {
     inner: T,
     longest: &'a Cell<Duration>,
-    asked: Asks,
 }
 
 impl<'a, T: Read> Read for Bounded<'a, T> {
     fn read(&mut self, buf: &mut [u8]) -> io::Result<usize> {
         self.inner.read(buf)
-    }
-}
-
-impl<'a, T: Read> BoundRead for Bounded<'a, T> {
-    ghost asked = { λ b. b.asked.asks };
-
-    fn bound_reads(&mut self, longest: Duration) -> io::Result<()> {
-        self.longest.set(longest);
-        self.asked.note(&[Ask::BoundReads(longest)]);
-        Ok(())
-    }
-
-    fn stop_waiting(&mut self) -> io::Result<()> {
-        self.asked.note(&[Ask::StopWaiting]);
-        Ok(())
     }
 }
 
@@ -79,17 +69,22 @@ impl<'a, T: Write> Write for Bounded<'a, T> {
     }
 }
 
-impl<'a, T: Write> BoundWrite for Bounded<'a, T> {
-    ghost asked = { λ b. b.asked.asks };
-
-    fn bound_writes(&mut self, longest: Duration) -> io::Result<()> {
+impl<'a, T> WaitBounds for Bounded<'a, T> {
+    fn bound_reads(&self, longest: Duration) -> io::Result<()> {
         self.longest.set(longest);
-        self.asked.note(&[Ask::BoundWrites(longest)]);
         Ok(())
     }
 
-    fn shut(&mut self) -> io::Result<()> {
-        self.asked.note(&[Ask::Shut]);
+    fn bound_writes(&self, longest: Duration) -> io::Result<()> {
+        self.longest.set(longest);
+        Ok(())
+    }
+
+    fn stop_waiting(&self) -> io::Result<()> {
+        Ok(())
+    }
+
+    fn shut(&self) -> io::Result<()> {
         Ok(())
     }
 }
@@ -109,17 +104,15 @@ fn no_waits() -> Waits {
     }
 }
 
-/// Answers a message from shelves, measured by a clock with this step, and returns the status. Then drops the shelves.
+/// Answers a message from shelves, and returns the status. Then drops the shelves.
 fn timed_from<S: Shelves + Drop, R: BoundRead + Drop, W: BoundWrite + Drop>(
     alloc: Global,
     mut shelves: S,
-    step: u64,
     reader: R,
     writer: W,
 ) -> Result<Option<u16>, Io> {
     let answered = answer_in_time(
         alloc,
-        &clock(step),
         &mut RouteTable::new(alloc),
         Hearing::new(reader),
         Telling::new(writer),
@@ -138,17 +131,21 @@ fn answer_timed<W: Write + Drop>(
     last: &[u8],
     writer: W,
 ) -> Result<Result<Option<u16>, Io>, Fail> {
+    let clock = clock(step);
     let reader = Bounded {
         inner: first.chain(last),
         longest: &waits.read,
-        asked: Asks::new(),
     };
     let writer = Bounded {
         inner: writer,
         longest: &waits.write,
-        asked: Asks::new(),
     };
-    Ok(timed_from(alloc, shelves(alloc)?, step, reader, writer))
+    Ok(timed_from(
+        alloc,
+        shelves(alloc)?,
+        Socket::new(reader, &clock),
+        Socket::new(writer, &clock),
+    ))
 }
 
 #[test]

@@ -30,7 +30,8 @@ returns-in_default g c = record {
     kind = kind_of c.no_form.result;
     why = none_shown (texts c.args.words.now) (kind_of c.no_form.result) c.no_form.ensures
         (none_asked (texts c.args.words.now) c.matches_of.result c.in-Ok.matches
-        c.command_of.result (search rules) (search rules) c.matches_of.ensures.reads c.command_of.ensures);
+        c.command_of.result (search rules) (search rules) c.matches_of.ensures.refuses c.matches_of.ensures.reads
+        c.command_of.ensures);
     ends = c.show-in_default.ensures.ends;
     idle = refl;
     input = refl;

@@ -1,6 +1,6 @@
 use Rattle.std.proofs.Common.{◌≡◌, refl}
 use Rattle.commands.specs.declared.refusal.CommandRefusal.TheVariants.{Io}
-use Rattle.commands.proofs.Actions.{not_accepted, registry_cause, revoked_cause}
+use Rattle.commands.proofs.Actions.{accepted, not_accepted, registry_cause, revoked_cause}
 use Rattle.commands.proofs.action.act_alone.Goals as goal
 
 pub returns-in-AddNew-clause-acts : goal.returns-in-AddNew-clause-acts
@@ -22,6 +22,10 @@ pub returns-in-AddNew-clause-cause : goal.returns-in-AddNew-clause-cause
 returns-in-AddNew-clause-cause g c =
     rw c.in-AddNew.is (not_accepted c.add_new.result _ _ c.acceptance-in-AddNew.ensures c.add_new.ensures.cause)
 
+pub returns-in-AddNew-clause-flushed : goal.returns-in-AddNew-clause-flushed
+returns-in-AddNew-clause-flushed g c =
+    λ _. accepted c.add_new.result _ _ c.acceptance-in-AddNew.ensures c.add_new.ensures.flushed
+
 pub returns-in-Register-clause-cause : goal.returns-in-Register-clause-cause
 returns-in-Register-clause-cause g c =
     rw c.in-Register.is (not_accepted c.register.result _ (λ e. ¬ (e ≡ Io)) c.acceptance.ensures
@@ -36,3 +40,7 @@ returns-in-RevokeByFingerprint-clause-cause g c =
 pub returns-in-Answer-clause-cause : goal.returns-in-Answer-clause-cause
 returns-in-Answer-clause-cause g c =
     rw c.in-Answer.is (not_accepted c.answer_input.result _ _ c.acceptance-in-Answer.ensures c.answer_input.ensures.cause)
+
+pub returns-in-Answer-clause-flushed : goal.returns-in-Answer-clause-flushed
+returns-in-Answer-clause-flushed g c =
+    λ _. accepted c.answer_input.result _ _ c.acceptance-in-Answer.ensures c.answer_input.ensures.flushed

@@ -1,13 +1,13 @@
-use Rattle.std.proofs.Common.{◌≡◌, ℕ, ◌+◌, List, ◌++◌, inl, inr, refl, ◌∙◌, ap, arith}
+use Rattle.std.proofs.Common.{◌≡◌, ℕ, List, ◌++◌, refl, ◌∙◌, ap, arith, true≢false}
 use Rattle.std.proofs.lemmas.List.{append_assoc}
 use Rattle.histories.specs.Account.{Account}
-use Rattle.histories.specs.Calls.{Reads}
 use Rattle.histories.proofs.AccountLemmas.{Gives-trans}
-use Rattle.control.specs.Line.{Comes, HasTried, IsPartAfter, ReadsMore}
+use Rattle.control.specs.Line.{Comes, IsPartAfter, ReadsMore}
 use Rattle.control.specs.declared.line.Came.{Came}
 use Rattle.control.specs.declared.line.Came.TheVariants.{All, Part, Interrupted, Late}
 use Rattle.control.specs.declared.line.Extent.TheVariants.{Line}
-use Rattle.commands.proofs.Connections.{then_pings}
+use Rattle.control.proofs.HeardLemmas.{all_tried, heard, still_on, unheard}
+use Rattle.commands.proofs.Connections.{pings_few, then_pings}
 use Rattle.commands.proofs.copy.await_line.Goals as goal
 
 -- what was read behind what was read
@@ -18,12 +18,6 @@ more_after a b c got mid new one two = record {
   gives = Gives-trans _ _ _ _ _ one.gives two.gives;
   behind = two.behind ∙ ap (λ x. x ++ two.bytes) one.behind ∙ append_assoc got one.bytes two.bytes;
 }
-
--- one more read
-one_more : (n : ℕ) (a b c : Reads) → HasTried n a b → HasTried 1 b c → HasTried (n + 1) a c
-one_more n a b c (inl fell, few) (two, more) = (inl (omega (arith, fell, more)), omega (arith, few, more))
-one_more n a b c (inr begun, few) (inl fell, more) = (inl (omega (arith, few, fell)), omega (arith, few, more))
-one_more n a b c (inr begun, few) (inr one, more) = (inr (omega (arith, begun, one)), omega (arith, few, more))
 
 -- what was not all is a part
 is_part : (came : Came) (got : List ℕ) (len len_new : ℕ) (account : Account) → ¬ (came ≡ All)
@@ -42,8 +36,28 @@ loop-preserved g c =
     let more_room = on.room in
     record {
       more = more_after _ _ _ _ _ _ before.more on.reads;
-      tried = one_more _ (reads c.args.reader.now) (reads c.loop.reader) (reads c.hear_on.new.reader) before.tried on.tried;
+      still = still_on _ _ (reads c.args.reader.now) (reads c.loop.reader) (reads c.hear_on.new.reader) before.still _
+          on.tried on.fails (λ never. absurd (true≢false never));
       room = omega (arith, room, more_room);
       part = λ long. before.part (is_part _ _ _ _ _ c.in_default.not-All on.came long);
-      between = then_pings _ _ _ _ _ before.between c.show.ensures;
+      between = then_pings _ _ _ _ _ _ _ _ _ before.between c.show.ensures
+          (pings_few _ (reads c.loop.reader) (reads c.hear_on.new.reader) on.fails);
     }
+
+pub returns-in_err-came-clause-hears : goal.returns-in_err-came-clause-hears
+returns-in_err-came-clause-hears g c =
+    let reads = g.R.Hear.reads in
+    unheard _ _ (reads c.args.reader.now) (reads c.loop.reader) (reads c.hear_on.new.reader) c.loop.invariant.still
+    c.in_err-came.field-0.0 c.from_residual.result c.from_residual.ensures.1 c.in_err-came.ensures.fails
+
+pub returns-in-All-clause-hears : goal.returns-in-All-clause-hears
+returns-in-All-clause-hears g c =
+    let reads = g.R.Hear.reads in
+    heard _ _ (reads c.args.reader.now) (reads c.loop.reader) (reads c.hear_on.new.reader) c.loop.invariant.still
+    (rw c.in-All.is at c.in_ok-came.ensures.fails)
+
+pub returns-clause-hears : goal.returns-clause-hears
+returns-clause-hears g c =
+    let reads = g.R.Hear.reads in
+    all_tried _ _ (reads c.args.reader.now) (reads c.loop.reader) c.loop.invariant.still
+    (omega (arith, c.loop-test.false))

@@ -1,6 +1,5 @@
 use Rattle.std.proofs.Common.{ap, inl, inr, refl, Err, Ok}
 use Rattle.network.specs.declared.servers.Link.{Link}
-use Rattle.orders.specs.declared.command.RegistryCommand.TheVariants.{KeyAdd}
 use Rattle.commands.specs.Connection.{IsAll}
 use Rattle.commands.specs.Order.{OrdersAt}
 use Rattle.commands.proofs.NewKeys.{ends_io}
@@ -11,8 +10,8 @@ returns-in-Err-clause-cause g c =
     let ordered = OrdersAt {L = Link g.row.R.Denot g.row.W.Denot} (λ link passed. IsAll (g.R.Hear.account link.reader)
     (g.R.Hear.reads link.reader) (g.W.Write.contents link.writer) (g.W.Tell.writes link.writer).failed passed)
     c.args.path.now in
-    λ is. inr (ends_io ordered (g.V.Servers.history c.args.servers.now) (g.V.Servers.history c.order_at.new.servers)
-    (KeyAdd c.args.shelf c.args.key c.args.right) c.in-Err.refusal c.in-Err.ensures is)
+    λ is. inr (ends_io ordered c.args.shelf c.args.key c.args.right (g.V.Servers.history c.args.servers.now)
+    (g.V.Servers.history c.order_at.new.servers) c.in-Err.refusal c.in-Err.ensures is)
 
 pub returns-in-Ok-clause-orders : goal.returns-in-Ok-clause-orders
 returns-in-Ok-clause-orders g c = record {

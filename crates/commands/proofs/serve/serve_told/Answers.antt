@@ -5,17 +5,19 @@ use Rattle.commands.proofs.serve.serve_told.Goals as goal
 
 pub returns-clause-each : goal.returns-clause-each
 returns-clause-each g c =
-    let served = c.serve_both.ensures.traces in
+    let uses = c.serve_both.ensures.uses in
+    let served = uses.traces in
     record {
       mid = c.versions-versions.new.shelves;
       counts = c.versions-versions.ensures.reads;
       versions = c.versions-versions.result;
+      cause = c.versions-versions.ensures.cause;
       number = c.versions-versions.ensures.counted;
       each = served.ends;
-      has_room = c.args.has_room;
       lines = lines_of_serve _ _ served.ends.reads.each.calls c.served.result.now c.served-2.result.now _ _ _ _ _ _ _
           c.opened.ensures c.tell.ensures.tells c.tell_room.ensures.tells served.traces c.ended.ensures
           c.tell-2.ensures.tells;
+      uses = (uses.more, uses.are, uses.uses);
     }
 
 pub returns-clause-goes : goal.returns-clause-goes

@@ -21,7 +21,7 @@ returns-in-Some-Stop-clause-heeds g c = λ got is. record {
   );
   prints = refl;
   tells = c.reply.ensures.told;
-  through = (refl, tasks_none _);
+  through = ((g.met.K.CopyOrders.is_same _, refl), tasks_none _);
   came = tt;
   lists = tt;
 }
@@ -35,7 +35,7 @@ returns-in-Some-Ping-clause-heeds g c = λ got is. record {
   );
   prints = refl;
   tells = c.reply-in-Some-Ping.ensures.told ∙ c.ping.ensures.pings.tells;
-  through = (refl, tasks_read _ _ c.ping.ensures.pings.reads);
+  through = ((g.met.K.CopyOrders.is_same _, refl), tasks_read _ _ c.ping.ensures.pings.reads);
   came = c.ping.ensures.pings.came;
   lists = tt;
 }
@@ -64,26 +64,29 @@ returns-in-Some-List-clause-heeds g c = λ got is. record {
   );
   prints = refl;
   tells = c.reply-in-Some-List.ensures.told ∙ c.list.ensures.tells;
-  through = (refl, tasks_read _ _ (list_only_reads _ _ _ _ c.list.ensures.reads));
+  through = ((g.met.K.CopyOrders.is_same _, refl), tasks_read _ _ (list_only_reads _ _ _ _ c.list.ensures.reads));
   came = tt;
   lists = c.list.ensures.reads;
 }
 
 pub returns-in-Some-RevokeByFingerprint-clause-heeds : goal.returns-in-Some-RevokeByFingerprint-clause-heeds
 returns-in-Some-RevokeByFingerprint-clause-heeds g c = λ got is. record {
-  heard = Named c.in-Some-RevokeByFingerprint.fingerprint.now c.revoke_by_fingerprint-done.ensures.naming;
+  heard = Named c.in-Some-RevokeByFingerprint.fingerprint.now c.revoke_by_fingerprint-done.ensures.revokes.naming;
   from = (
     subst (λ o. IsLineOf got (ordered o))
         (rw c.in-Some-RevokeByFingerprint.is at c.in-Some-RevokeByFingerprint.field-0-is)
         (rw c.in-Some-RevokeByFingerprint.is at is),
-    λ said. subst (IsNoted (named_notice c.revoke_by_fingerprint-done.ensures.naming))
-        (sym c.reply_outcome-in-Some-RevokeByFingerprint.ensures.noted) c.revoke_by_fingerprint-done.ensures.notes,
+    λ said. subst (IsNoted (named_notice c.revoke_by_fingerprint-done.ensures.revokes.naming))
+        (sym c.reply_outcome-in-Some-RevokeByFingerprint.ensures.noted) c.revoke_by_fingerprint-done.ensures.revokes.notes,
   );
   prints = refl;
-  tells = c.reply_outcome-in-Some-RevokeByFingerprint.ensures.told ∙ ap spoken.Outcome c.revoke_by_fingerprint-done.ensures.tells;
-  through = (refl, c.revoke_by_fingerprint-done.ensures.through);
+  tells = c.reply_outcome-in-Some-RevokeByFingerprint.ensures.told ∙ ap spoken.Outcome c.revoke_by_fingerprint-done.ensures.revokes.tells;
+  through = (
+    (c.revoke_by_fingerprint-done.ensures.rests, c.revoke_by_fingerprint-done.ensures.revokes.room),
+    c.revoke_by_fingerprint-done.ensures.revokes.through,
+  );
   came = tt;
-  lists = c.revoke_by_fingerprint-done.ensures.finds;
+  lists = c.revoke_by_fingerprint-done.ensures.revokes.finds;
 }
 
 pub returns-in-Some-Registry-clause-heeds : goal.returns-in-Some-Registry-clause-heeds
@@ -97,7 +100,10 @@ returns-in-Some-Registry-clause-heeds g c = λ got is. record {
   );
   prints = refl;
   tells = c.reply_outcome-in-Some-Registry.ensures.told ∙ ap spoken.Outcome c.outcome_of.ensures;
-  through = (refl, tasks_ordered _ _ _ _ c.carry_out_in-told.ensures.does);
+  through = (
+    (c.carry_out_in-told.ensures.rests, c.carry_out_in-told.ensures.room),
+    tasks_ordered _ _ _ _ c.carry_out_in-told.ensures.does,
+  );
   came = tt;
   lists = tt;
 }
@@ -108,7 +114,7 @@ returns-in-None-clause-heeds g c = λ got is. record {
   from = (rw c.in-None.is at is, λ said. c.reply-in-None.ensures.noted);
   prints = refl;
   tells = c.reply-in-None.ensures.told;
-  through = (refl, tasks_none _);
+  through = ((g.met.K.CopyOrders.is_same _, refl), tasks_none _);
   came = tt;
   lists = tt;
 }

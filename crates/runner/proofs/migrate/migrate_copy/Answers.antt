@@ -1,4 +1,4 @@
-use Rattle.std.proofs.Common.{inl, ◌∙◌}
+use Rattle.std.proofs.Common.{inl}
 use Rattle.runner.proofs.MigrateLemmas.{copy_migrated}
 use Rattle.runner.proofs.migrate.migrate_copy.Goals as goal
 
@@ -8,7 +8,5 @@ returns-clause-migrates g c = inl (record {
   old_new = c.migrate_to-told.new.old;
   begins = c.in_ok-old.ensures.begun.0;
   migrates = c.migrate_to-told.ensures.migrates;
-  done = copy_migrated _ _ _ _ _ _ _ _ _ _ _ _ c.as_str.ensures.value c.as_str-2.ensures.value c.as_str-3.ensures.value
-      (c.in_ok-old.ensures.begun.1 ∙ c.as_str.ensures.value) c.in_ok-old.ensures.opened c.unlink.ensures c.unlink-2.ensures
-      c.close.ensures;
+  done = copy_migrated _ _ _ _ _ _ _ c.in_ok-old.ensures.begun.1 c.in_ok-old.ensures.opened c.close.ensures;
 })

@@ -14,3 +14,6 @@ returns-clause-cause g c = rw (c.into_inner.ensures.same, c.into_inner-2.ensures
 
 pub returns-clause-flushed : goal.returns-clause-flushed
 returns-clause-flushed g c = rw c.into_inner-2.ensures.same c.answer_one-status.ensures.flushed
+
+pub returns-clause-waits : goal.returns-clause-waits
+returns-clause-waits g c = rw c.requires.may_wait at c.into_inner.ensures.waits

@@ -2,6 +2,7 @@ use Rattle.std.proofs.Common.{◌≢◌, inl, refl, rules}
 use Rattle.control.specs.Noted.{AreOfRoom}
 use Rattle.control.proofs.NotedLemmas.{room_written}
 use Rattle.control.proofs.NoticeLemmas.{none_written, notices_none}
+use Rattle.control.proofs.UseLemmas.{renewed_once}
 use Rattle.control.proofs.serving.Server.keep_room_and_tell.Goals as goal
 
 pub returns-then-eq-clause-notes : goal.returns-then-eq-clause-notes
@@ -16,3 +17,9 @@ returns-clause-tells g c =
     let changed : c.keep_room-room.result ≢ c.args.self.now.room = search rules in
     room_written c.args.self.now.room c.keep_room-room.result c.reserved.result _ _ changed
     (rw c.is_whole.ensures at c.reserved.ensures) c.tell.ensures.tells
+
+pub returns-then-eq-clause-renews : goal.returns-then-eq-clause-renews
+returns-then-eq-clause-renews g c = renewed_once _ _ refl c.keep_room-room.ensures.noted
+
+pub returns-clause-renews : goal.returns-clause-renews
+returns-clause-renews g c = renewed_once _ _ refl c.keep_room-room.ensures.noted

@@ -7,7 +7,7 @@ use Rattle.control.proofs.serving.Server.serve_each.Goals.{in-Ok-Operator, in-Ok
 pub loop-init : goal.loop-init
 loop-init g c = record {
   some = omega arith;
-  all = serves_none _ _ _ _ _ _ _ _ _ _ _ _ _;
+  all = serves_none _ _ _ _ _ _ _ _ _ _ _ _ _ _;
   same = refl;
   same_errors = refl;
   notes = notices_none _;
@@ -20,7 +20,7 @@ loop-preserved g c =
     elim c.match-next.branch [
       | in-Ok-Operator w ↦ rw (w.self-is, w.watched-is) (record {
         some = omega (arith, holds.some, w.obey_on.ensures.taken);
-        all = serves_more _ _ _ _ _ _ _ _ false _ _ _ _ _ _ _ _ _ _ _ _ holds.all
+        all = serves_more _ _ _ _ _ _ _ _ false _ _ _ _ _ _ _ _ _ _ _ _ _ _ _ holds.all
             (w.obey_on.ensures.serves _
             (rw w.in-Ok-Operator.field-0-is at w.in-Ok-Operator.ensures.takes)
             (rw w.in-Ok-Operator.field-0-is at w.in-Ok-Operator.ensures.fresh));
@@ -30,21 +30,21 @@ loop-preserved g c =
       })
       | in-Ok-Peer w ↦ rw (w.self-is, w.watched-is) (record {
         some = omega (arith, holds.some, w.answer.ensures.serves.taken);
-        all = serves_more _ _ _ _ _ _ _ _ false _ _ _ _ _ _ _ _ _ _ _ _ holds.all
-            (serves_peer _ _ _ _ _ _ _ _ false _ _ _ _ _ _ _ _ _ _
+        all = serves_more _ _ _ _ _ _ _ _ false _ _ _ _ _ _ _ _ _ _ _ _ _ _ _ holds.all
+            (serves_peer _ _ _ _ _ _ _ _ false _ _ _ _ _ _ _ _ _ _ _ _
             (rw w.in-Ok-Peer.field-0-is at w.in-Ok-Peer.ensures.takes)
             (rw w.in-Ok-Peer.field-0-is at w.in-Ok-Peer.ensures.fresh) going.0 w.answer.ensures.serves
-            w.answer.ensures.tells);
+            w.answer.ensures.tells w.answer.ensures.renews);
         same = w.answer.ensures.same ∙ holds.same;
         same_errors = w.answer.ensures.same_errors ∙ holds.same_errors;
         notes = notices_more _ _ _ holds.notes w.answer.ensures.notes;
       })
       | in-Err w ↦ rw (w.self-is, w.watched-is) (record {
         some = omega (arith, holds.some, w.count_untaken.ensures.taken);
-        all = serves_more _ _ _ _ _ _ _ _ false _ _ _ _ _ _ _ _ _ _ _ _ holds.all
-            (serves_untaken _ _ _ _ _ _ _ _ false _ _ _ _ _ _ _ _ w.in-Err.ensures.takes going.0
+        all = serves_more _ _ _ _ _ _ _ _ false _ _ _ _ _ _ _ _ _ _ _ _ _ _ _ holds.all
+            (serves_untaken _ _ _ _ _ _ _ _ false _ _ _ _ _ _ _ _ _ _ w.in-Err.ensures.takes going.0
             w.count_untaken.ensures.tally w.count_untaken.ensures.left w.count_untaken.ensures.taken
-            w.count_untaken.ensures.stops refl refl);
+            w.count_untaken.ensures.stops refl refl refl);
         same = holds.same;
         same_errors = holds.same_errors;
         notes = holds.notes;

@@ -18,7 +18,7 @@ returns-clause-serves g c =
     (c.requires.was w (subst (λ s. (shown s).stands w) begun stands)) in
     rw begun at (rw ends at
     (serves_unnoted shown g.K.Copies.made g.K.Copies.counted (λ n. n.inner.now)
-    (λ n. IsNoted n.lost m.was m.before n.news) _ _ _ _ _ _ _ _ _ _ _ first c.serve_watched-lent.result.now all
+    (λ n. IsNoted n.lost m.was m.before n.news) _ _ _ _ _ _ _ _ _ _ _ _ _ first c.serve_watched-lent.result.now all
     c.serve_watched-lent.ensures.serves))
 
 pub returns-clause-newcomers : goal.returns-clause-newcomers

@@ -1,3 +1,5 @@
+use Rattle.histories.specs.declared.call.Call.TheVariants.{Shows, Unshown}
+use Rattle.histories.proofs.StoppingLemmas.{waits_bounded, waits_more}
 use Rattle.histories.proofs.TimingLemmas.{if_failed, blind, late, late_since, over, ready, unready, after}
 use Rattle.histories.proofs.TimingLemmas.{ready_at_once}
 use Rattle.histories.proofs.deadline_reader.DeadlineReader.bound.Goals as goal
@@ -5,6 +7,7 @@ use Rattle.histories.proofs.deadline_reader.DeadlineReader.bound.Goals as goal
 pub invariant_of-self : goal.invariant_of-self
 invariant_of-self g c = record {
   since = late_since _ _ _ _ (blind _ _ _ _ _ c.in_err-now.ensures.noted c.args.self.now.since);
+  stops = waits_more Unshown _ _ tt c.in_err-now.ensures.noted c.args.self.now.stops;
 }
 
 pub returns-in_err-now-clause-late : goal.returns-in_err-now-clause-late
@@ -26,6 +29,7 @@ pub invariant_of-self-in-Break-branch-2 : goal.invariant_of-self-in-Break-branch
 invariant_of-self-in-Break-branch-2 g c = record {
   since = late _ _ _ _ _ _ _ c.left.ensures.begins c.left.ensures.moved c.in_ok-now.ensures.noted _
       c.args.self.now.since;
+  stops = waits_more (Shows c.in_ok-now.now) _ _ tt c.in_ok-now.ensures.noted c.args.self.now.stops;
 }
 
 pub invariant_of-self-then-self : goal.invariant_of-self-then-self
@@ -34,12 +38,15 @@ invariant_of-self-then-self g c = record {
       c.in_ok-left.ensures.some c.in_ok-left.ensures.within _ _ c.bound.result
       c.bound.ensures.noted
       c.args.self.now.since;
+  stops = waits_bounded c.bound.result _ _ _ c.bound.ensures.noted
+      (waits_more (Shows c.in_ok-now.now) _ _ tt c.in_ok-now.ensures.noted c.args.self.now.stops);
 }
 
 pub invariant_of-self-else-self : goal.invariant_of-self-else-self
 invariant_of-self-else-self g c = record {
   since = late _ _ _ _ _ _ _ c.left.ensures.begins c.left.ensures.moved c.in_ok-now.ensures.noted _
       c.args.self.now.since;
+  stops = waits_more (Shows c.in_ok-now.now) _ _ tt c.in_ok-now.ensures.noted c.args.self.now.stops;
 }
 
 pub returns-then-self-clause-ready : goal.returns-then-self-clause-ready

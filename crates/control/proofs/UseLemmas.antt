@@ -1,0 +1,213 @@
+-- What orders do to the reserve, one after another.
+use Rattle.std.proofs.Common.{◌≡◌, ◌∙◌, ◌+◌, ℕ, List, [], ◌∷◌, ◌++◌, All, Option, Some, None, Result, Err}
+use Rattle.std.proofs.Common.{ap, refl, subst, sym}
+use Rattle.std.proofs.Common.{append_assoc, append-nil, arith, false, inl, inr, true}
+use Rattle.std.proofs.lemmas.List.{length-append}
+use Rattle.std.proofs.lemmas.List.Elements.{All-append, All-cons, All-nil}
+use Rattle.std.specs.Prelude.{Bool, IsErrOf, length}
+use Rattle.histories.specs.Account.{Account}
+use Rattle.histories.specs.Calls.{Reads, Writes}
+use Rattle.world.specs.Store.{Shown}
+use Rattle.world.specs.declared.registry.RegistryReply.{RegistryReply}
+use Rattle.world.specs.declared.registry.StoreFault.{StoreFault}
+use Rattle.world.specs.declared.registry.StoreFault.TheVariants.{Device}
+use Rattle.control.specs.Copying.{Making}
+use Rattle.control.specs.Hearing.{Heard, Carried, Made, Listed, Pinged, Named, Stop, NoOrder, NoMemory, UsesRoomIf}
+use Rattle.control.specs.Naming.{NamesOne, NamesNone, ReadError}
+use Rattle.control.specs.Reserve.{DoesMore, FindsNone, GivesUp, IsRenewal, IsUse, Lent, Renews, UsesRoom}
+use Rattle.control.specs.Uses.{HasUse, HasUses, IsUseIf, UsesOnce}
+use Rattle.control.specs.Visits.{Audience, Call, ObeysOne, OfOperator, OfPeer, Untaken}
+use Rattle.control.specs.declared.health.Health.{Health}
+use Rattle.control.specs.declared.reserve.RoomDeed.{RoomDeed}
+use Rattle.control.specs.declared.reserve.RoomDeed.TheVariants.{GaveUp, Renewed}
+use Rattle.control.proofs.OrderedLemmas.{Ordered, Other, ToMake, ordered_if}
+
+-- ---- one order
+
+-- a list is not one that goes on behind it
+no_longer : (deeds more : List RoomDeed) (deed : RoomDeed) → deeds ≡ deeds ++ deed ∷ more → ⊥
+no_longer deeds more deed is = omega (arith, ap length is, length-append deeds (deed ∷ more))
+
+device_of : (result : Result RegistryReply StoreFault) → result ≡ Err Device → IsErrOf result Device
+device_of result is = subst (λ r. IsErrOf r Device) (sym is) refl
+
+-- where nothing was done, the order did not end with a fault of the disk
+met_none : (old new : Shown) (deeds : List RoomDeed) (result : Result RegistryReply StoreFault)
+    → UsesRoom old new deeds deeds result → result ≡ Err Device → ⊥
+met_none old new deeds result uses is = elim (uses.device (device_of result is)) [
+  | inl none ↦ no_longer deeds [] (GaveUp false) none
+  | inr given ↦ no_longer deeds (Renewed ∷ []) (GaveUp true) given.0
+]
+
+use_of_room : (old new : Shown) (deeds deeds_new : List RoomDeed) (result : Result RegistryReply StoreFault)
+    → UsesRoom old new deeds deeds_new result
+    → (own : List RoomDeed) × (deeds_new ≡ deeds ++ own) × IsUse result own
+use_of_room old new deeds deeds_new result uses = elim uses.renewed [
+  | inl same ↦ (
+    [],
+    same ∙ sym (append-nil deeds),
+    inl (refl, met_none old new deeds result (subst (λ d. UsesRoom old new deeds d result) same uses)),
+  )
+  | inr (inl none) ↦ (GaveUp false ∷ [], none, inr (inl (refl, uses.none none)))
+  | inr (inr given) ↦ (GaveUp true ∷ Renewed ∷ [], given, inr (inr refl))
+]
+
+unused : (deeds deeds_new : List RoomDeed) → deeds_new ≡ deeds
+    → (own : List RoomDeed) × (deeds_new ≡ deeds ++ own) × (own ≡ [])
+unused deeds deeds_new same = ([], same ∙ sym (append-nil deeds), refl)
+
+use_of : (old new : Shown) (deeds deeds_new : List RoomDeed) (heard : Option Heard)
+    → UsesRoomIf old new deeds deeds_new heard
+    → (own : List RoomDeed) × (deeds_new ≡ deeds ++ own) × IsUseIf heard own
+use_of old new deeds deeds_new None uses = unused deeds deeds_new uses
+use_of old new deeds deeds_new (Some (Carried command told)) uses = use_of_room old new deeds deeds_new told uses
+use_of old new deeds deeds_new (Some (Made making)) uses = unused deeds deeds_new uses
+use_of old new deeds deeds_new (Some (Pinged told)) uses = unused deeds deeds_new uses
+use_of old new deeds deeds_new (Some (Listed listing told)) uses = unused deeds deeds_new uses
+use_of old new deeds deeds_new (Some (Named f (NamesOne key told))) uses = use_of_room old new deeds deeds_new told uses
+use_of old new deeds deeds_new (Some (Named f NamesNone)) uses = unused deeds deeds_new uses
+use_of old new deeds deeds_new (Some (Named f (ReadError fault))) uses = unused deeds deeds_new uses
+use_of old new deeds deeds_new (Some Stop) uses = unused deeds deeds_new uses
+use_of old new deeds deeds_new (Some NoOrder) uses = unused deeds deeds_new uses
+use_of old new deeds deeds_new (Some NoMemory) uses = unused deeds deeds_new uses
+
+-- an order did this to the same reserve
+pub used_so : (old new : Shown) (a b : Lent) (heard : Option Heard) → b.1 ≡ a.1 → UsesRoomIf old new a.0 b.0 heard
+    → DoesMore (IsUseIf heard) a b
+used_so old new a b heard same uses =
+    let used = use_of old new a.0 b.0 heard uses in (same, used.0, used.1, used.2)
+
+-- so it is under another name of the loan
+pub used_behind : (does : List RoomDeed → Type 0) (name : ℕ) (a b : Lent) → DoesMore does a b
+    → DoesMore does (a.0, name) (b.0, name)
+used_behind does name a b used = (refl, used.1, used.2, used.3)
+
+-- nothing was done to it
+pub used_none : (does : List RoomDeed → Type 0) (a : Lent) → does [] → DoesMore does a a
+used_none does a none = (refl, [], sym (append-nil a.0), none)
+
+-- this, and then that
+pub used_then : (one two both : List RoomDeed → Type 0) (a b c : Lent)
+    → ((xs ys : List RoomDeed) → one xs → two ys → both (xs ++ ys))
+    → DoesMore one a b → DoesMore two b c → DoesMore both a c
+used_then one two both a b c so (same, xs, is, does) (same_then, ys, is_then, does_then) = (
+  same_then ∙ same,
+  xs ++ ys,
+  is_then ∙ ap (λ l. l ++ ys) is ∙ append_assoc a.0 xs ys,
+  so xs ys does does_then,
+)
+
+-- room was taken again
+pub renewed_once : (a b : Lent) → b.1 ≡ a.1 → b.0 ≡ a.0 ++ Renewed ∷ [] → Renews a b
+renewed_once a b same is = (same, Renewed ∷ [], is, All-cons IsRenewal Renewed [] tt (All-nil IsRenewal))
+
+-- it was not taken again
+pub renewed_none : (a : Lent) → Renews a a
+renewed_none a = used_none (All IsRenewal) a (All-nil IsRenewal)
+
+-- room was taken again, and then once more
+pub renewed_then : (a b c : Lent) → Renews a b → Renews b c → Renews a c
+renewed_then a b c one two =
+    used_then (All IsRenewal) (All IsRenewal) (All IsRenewal) a b c (All-append IsRenewal) one two
+
+-- an order, and then room was taken again
+pub uses_once : (heard : Option Heard) (a b c : Lent) → DoesMore (IsUseIf heard) a b → Renews b c → UsesOnce heard a c
+uses_once heard a b c one two =
+    used_then (IsUseIf heard) (All IsRenewal) (HasUse heard) a b c (λ own rest is are. (own, rest, refl, is, are)) one two
+
+-- an order that has something made does nothing to it by itself
+pub used_made : (a : Lent) (heard : Option Heard) (making : Making) → heard ≡ Some (Made making)
+    → DoesMore (IsUseIf heard) a a
+used_made a heard making is = used_none (IsUseIf heard) a (subst (λ h. IsUseIf h []) (sym is) refl)
+
+-- so it is of either kind
+used_either : (idle : Option Heard → Type 0) (meanwhile : Making → Type 0) (old new : Shown) (heard : Option Heard)
+    (a b : Lent)
+    → (idle heard → DoesMore (IsUseIf heard) a b) → ((making : Making) → meanwhile making → b ≡ a)
+    → Ordered idle meanwhile old new heard → DoesMore (IsUseIf heard) a b
+used_either idle meanwhile old new heard a b one two (Other rests through short) = one rests
+used_either idle meanwhile old new heard a b one two (ToMake making is done) =
+    subst (DoesMore (IsUseIf heard) a) (sym (two making done)) (used_made a heard making is)
+
+-- so it is of an operator who was obeyed
+pub used_one : {O : Type 0} (heeded : O → Account × Reads) (told : O → Option (List ℕ) × Writes)
+    (made : Making → Type 0) (pinged : Result Health StoreFault → Type 0)
+    (idle : Option Heard → Type 0) (meanwhile : Making → Type 0) (old new : Shown) (operator gone : O) (stops : Bool)
+    (a b : Lent) (next : ObeysOne heeded told made pinged idle meanwhile operator gone stops old new)
+    → ((heard : Option Heard) → idle heard → DoesMore (IsUseIf heard) a b)
+    → ((making : Making) → meanwhile making → b ≡ a) → DoesMore (IsUseIf next.audience.heard) a b
+used_one heeded told made pinged idle meanwhile old new operator gone stops a b next one two =
+    used_either idle meanwhile old new next.audience.heard a b (one next.audience.heard) two
+    (ordered_if idle meanwhile old new next.audience.heard next.through)
+
+-- ---- one after another
+
+module _ {P O : Type 0} where
+  uses_front : (calls : List (Call P O)) (others deeds : List RoomDeed) → All IsRenewal others → HasUses calls deeds
+      → HasUses calls (others ++ deeds)
+  uses_front [] others deeds are has = All-append IsRenewal others deeds are has
+  uses_front (OfPeer visit answered ∷ calls) others deeds are has = uses_front calls others deeds are has
+  uses_front (OfOperator x ∷ calls) others deeds are (front, own, rest, is, renewals, one, more) = (
+    others ++ front,
+    own,
+    rest,
+    ap (λ l. others ++ l) is ∙ sym (append_assoc others front (own ++ rest)),
+    All-append IsRenewal others front are renewals,
+    one,
+    more,
+  )
+  uses_front (Untaken ∷ calls) others deeds are has = uses_front calls others deeds are has
+
+  uses_both : (xs ys : List (Call P O)) (deeds others : List RoomDeed) → HasUses xs deeds → HasUses ys others
+      → HasUses (xs ++ ys) (deeds ++ others)
+  uses_both [] ys deeds others one two = uses_front ys deeds others one two
+  uses_both (OfPeer visit answered ∷ xs) ys deeds others one two = uses_both xs ys deeds others one two
+  uses_both (OfOperator x ∷ xs) ys deeds others (front, own, rest, is, renewals, one, more) two = (
+    front,
+    own,
+    rest ++ others,
+    ap (λ l. l ++ others) is ∙ append_assoc front (own ++ rest) others
+        ∙ ap (λ l. front ++ l) (append_assoc own rest others),
+    renewals,
+    one,
+    uses_both xs ys rest others more two,
+  )
+  uses_both (Untaken ∷ xs) ys deeds others one two = uses_both xs ys deeds others one two
+
+  -- callers, and then others
+  pub uses_then : (xs ys : List (Call P O)) (a b c : Lent) → DoesMore (HasUses xs) a b → DoesMore (HasUses ys) b c
+      → DoesMore (HasUses (xs ++ ys)) a c
+  uses_then xs ys a b c one two =
+      used_then (HasUses xs) (HasUses ys) (HasUses (xs ++ ys)) a b c (uses_both xs ys) one two
+
+  -- callers, after room was taken again
+  pub uses_behind : (calls : List (Call P O)) (a b c : Lent) → Renews a b → DoesMore (HasUses calls) b c
+      → DoesMore (HasUses calls) a c
+  uses_behind calls a b c one two =
+      used_then (All IsRenewal) (HasUses calls) (HasUses calls) a b c (uses_front calls) one two
+
+  -- an operator who had something made, with those who were served meanwhile
+  pub uses_around : (x : Audience O) (making : Making) (calls : List (Call P O)) (a b c : Lent)
+      → x.heard ≡ Some (Made making) → DoesMore (HasUses calls) a b → Renews b c
+      → DoesMore (HasUses (OfOperator x ∷ calls)) a c
+  uses_around x making calls a b c is among renewed =
+      used_then (HasUses calls) (All IsRenewal) (HasUses (OfOperator x ∷ calls)) a b c
+      (λ deeds others has are. (
+        [],
+        [],
+        deeds ++ others,
+        refl,
+        All-nil IsRenewal,
+        subst (λ h. IsUseIf h []) (sym is) refl,
+        subst (λ ys. HasUses ys (deeds ++ others)) (append-nil calls) (uses_both calls [] deeds others has are),
+      )) among renewed
+
+-- nobody
+pub uses_none : (P O : Type 0) (a : Lent) → DoesMore (HasUses {P = P} {O = O} []) a a
+uses_none P O a = used_none (HasUses {P = P} {O = O} []) a (All-nil IsRenewal)
+
+-- an operator
+pub uses_operator : (P : Type 0) {O : Type 0} (x : Audience O) (a b : Lent) → UsesOnce x.heard a b
+    → DoesMore (HasUses {P = P} {O = O} (OfOperator x ∷ [])) a b
+uses_operator P {O} x a b (same, deeds, is, has) =
+    (same, deeds, is, ([], has.0, has.1, has.2, All-nil IsRenewal, has.3, has.4))

@@ -3,7 +3,7 @@ use Rattle.std.specs.Borrow.{Bor}
 use Rattle.std.proofs.Common.{◌≡◌, ℕ, List, Bool, Option, Result, Ok, Err, IfErr, OnOk, ap, refl, subst, sym, ◌∙◌}
 use Rattle.histories.specs.Calls.{Writes}
 use Rattle.socket.specs.declared.deed.ListenOn.{ListenOn}
-use Rattle.control.specs.declared.reserve.RoomDeed.{RoomDeed}
+use Rattle.control.specs.Reserve.{DiskDeed}
 use Rattle.world.specs.Store.{Shown}
 use Rattle.orders.specs.declared.command.RegistryCommand.{RegistryCommand}
 use Rattle.commands.specs.Action.{Acts, ActsAlone, Moment, NeverIo, ServesFor, Views, WritesErrors, acceptance}
@@ -24,7 +24,7 @@ any_action views shown made counted old new result _ acts = acts
 -- nobody is served
 pub serves_none : {S N P O : Type 0} (views : Views N P O) (shown : S → Shown) (made : Made S) (counted : Counted S)
     (old new : Moment S N) (times : List (Option (List ℕ))) (writes writes_new : Writes)
-    (errors errors_new : Option (List ℕ) × Writes) (deeds : List RoomDeed) (result : Result Bool CommandRefusal)
+    (errors errors_new : Option (List ℕ) × Writes) (deeds : List DiskDeed) (result : Result Bool CommandRefusal)
     (act : Action)
     → ((entrance : ListenOn) (connections : ℕ) (control : Option (Bor (List ℕ)))
     → ¬ (act ≡ action.Serve entrance connections control))

@@ -4,7 +4,7 @@ use Rattle.std.specs.Prelude.{ℕ, List, [], ◌≡◌, true, Bool, Option, opti
 use Rattle.histories.specs.Account.{Account}
 use Rattle.histories.specs.Calls.{Reads, Writes}
 use Rattle.control.specs.Notices.{WritesNotices}
-use Rattle.control.specs.declared.reserve.RoomDeed.{RoomDeed}
+use Rattle.control.specs.Reserve.{DiskDeed}
 use Rattle.engine.specs.Served.{ServesAllHeard}
 use Rattle.socket.specs.History.{Door, Known}
 use Rattle.socket.specs.declared.callers.Caller.{Caller}
@@ -147,7 +147,7 @@ module _ {S N P O : Type 0} (views : Views N P O) (shown : S → Shown) (made : 
   -- writer of errors and this reserve, nothing was read from the input or from files, and nothing was drawn
   pub record ServesConnections
       (entrance : ListenOn) (connections : ℕ) (control : Option (List ℕ)) (times : List (Option (List ℕ)))
-      (writes writes_new : Writes) (errors errors_new : Option (List ℕ) × Writes) (deeds deeds_new : List RoomDeed)
+      (writes writes_new : Writes) (errors errors_new : Option (List ℕ) × Writes) (deeds deeds_new : List DiskDeed)
       (result : Result Bool CommandRefusal) : Type 0 where
     pub ended : Result (Unit {0}) CommandRefusal
     pub serves : ListensAs views.heeded views.told views.heard views.written views.known shown made counted
@@ -163,7 +163,7 @@ module _ {S N P O : Type 0} (views : Views N P O) (shown : S → Shown) (made : 
   abbrev pub Acts : Result Bool CommandRefusal → Action → Type 0
   Acts result (action.Serve entrance connections control) =
       (times : List (Option (List ℕ))) × (writes writes_new : Writes) × (errors errors_new : Option (List ℕ) × Writes)
-      × (deeds deeds_new : List RoomDeed)
+      × (deeds deeds_new : List DiskDeed)
       × ServesConnections entrance connections (option_copied control) times writes writes_new errors errors_new deeds
       deeds_new result
   Acts result other = ActsAlone views shown old new result other
@@ -171,7 +171,7 @@ module _ {S N P O : Type 0} (views : Views N P O) (shown : S → Shown) (made : 
   -- so it is of a `serve` whose calendar showed these times, whose output was called so, of its writer of errors, and of
   -- its reserve; another action does nothing to the reserve
   abbrev pub ServesFor : List (Option (List ℕ)) → Writes → Writes → Option (List ℕ) × Writes
-      → Option (List ℕ) × Writes → List RoomDeed → List RoomDeed → Result Bool CommandRefusal → Action → Type 0
+      → Option (List ℕ) × Writes → List DiskDeed → List DiskDeed → Result Bool CommandRefusal → Action → Type 0
   ServesFor times writes writes_new errors errors_new deeds deeds_new result (action.Serve entrance connections control) =
       ServesConnections entrance connections (option_copied control) times writes writes_new errors errors_new deeds
       deeds_new result

@@ -16,11 +16,11 @@ use Rattle.socket.specs.declared.deed.ListenOn.TheVariants.{Port, Input}
 use Rattle.control.specs.WallClock.{Shows}
 use Rattle.control.specs.Copying.{Making, GoesOnRead, IsOnlyRead}
 use Rattle.control.specs.Notices.{Ended, Reserved, WritesLines, opened, room_told}
+use Rattle.control.specs.Reserve as room
+use Rattle.control.specs.Reserve.{DiskDeed}
 use Rattle.control.specs.Traces.{HasTraces, IsLineFor}
 use Rattle.control.specs.Uses.{HasUses}
 use Rattle.control.specs.Visits.{Call, EndsEach}
-use Rattle.control.specs.declared.reserve.RoomDeed.{RoomDeed}
-use Rattle.control.specs.declared.reserve.RoomDeed.TheVariants as room
 use Rattle.commands.specs.Printed.{HasFailed, PrintsFront}
 use Rattle.commands.specs.declared.refusal.CommandRefusal.{CommandRefusal}
 use Rattle.commands.specs.declared.refusal.CommandRefusal.TheVariants.{Io}
@@ -125,7 +125,7 @@ pub record TellsEach {P O : Type 0} (heeded : O → Account × Reads) (told : O 
     (heard : P → Account × Reads) (written : P → Option (List ℕ) × Writes) (known : Known P O)
     {S : Type 0} (shown : S → Shown) (made : Made S) (counted : Counted S) (old new : S) (connections : ℕ)
     (errors errors_new : Option (List ℕ) × Writes) (since : List ℕ) (has_room : Bool)
-    (deeds deeds_new : List RoomDeed) (door left : Door (Caller P O)) : Type 0 where
+    (deeds deeds_new : List DiskDeed) (door left : Door (Caller P O)) : Type 0 where
   pub mid : S
   pub counts : IsOnlyRead (shown old) (shown mid)
   pub versions : Result ℕ StoreFault
@@ -133,14 +133,14 @@ pub record TellsEach {P O : Type 0} (heeded : O → Account × Reads) (told : O 
   pub number : IfOk versions (λ n. counted old mid n)
   pub each : EndsEach heeded told heard written shown made counted known door left mid new since connections
   pub lines : WritesLines (AreOfServe versions has_room each.reads.each.calls) errors errors_new
-  pub uses : (more : List RoomDeed) × (deeds_new ≡ deeds ++ more) × HasUses each.reads.each.calls more
+  pub uses : (more : List DiskDeed) × (deeds_new ≡ deeds ++ more) × HasUses each.reads.each.calls more
 
 module _ {P O : Type 0} (heeded : O → Account × Reads) (told : O → Option (List ℕ) × Writes)
     (heard : P → Account × Reads) (written : P → Option (List ℕ) × Writes) (known : Known P O)
     {S : Type 0} (shown : S → Shown) (made : Made S) (counted : Counted S) (old new : S)
     (entrance : ListenOn) (connections : ℕ) (printed printed_new : Option (List ℕ)) (writes writes_new : Writes)
     (errors errors_new : Option (List ℕ) × Writes) where
-  module _ (since : List ℕ) (has_room : Bool) (deeds deeds_new : List RoomDeed) (door left : Door (Caller P O)) where
+  module _ (since : List ℕ) (has_room : Bool) (deeds deeds_new : List DiskDeed) (door left : Door (Caller P O)) where
     -- Peers were let in, and callers were served: peers, and between them operators, until one of these ended it, or
     -- the connections were used up. The lines of that were written. The store went through at most as many requests as
     -- there are connections, with orders between them, and copies of the machine's world at the moment of each order,
@@ -160,7 +160,7 @@ module _ {P O : Type 0} (heeded : O → Account × Reads) (told : O → Option (
         ServesNobody old new entrance printed printed_new writes writes_new door left e × (errors_new ≡ errors)
         × (deeds_new ≡ deeds)
 
-  module _ (times times_new : List (Option (List ℕ))) (deeds deeds_new : List RoomDeed) (door left : Door (Caller P O))
+  module _ (times times_new : List (Option (List ℕ))) (deeds deeds_new : List DiskDeed) (door left : Door (Caller P O))
       (result : Result (Unit {0}) CommandRefusal)
     where
       -- without operators: peers were served or not, and then all was closed, no line was written, and no reserve was

@@ -13,15 +13,14 @@ use Rattle.control.specs.RegistryCommand.{event_of, outcome_in}
 use Rattle.control.specs.Noted.{IsAbout, Noted}
 use Rattle.control.specs.Notices as notice
 use Rattle.control.specs.Outcome.{outcome_of}
-use Rattle.control.specs.Reserve.{UsesRoom}
+use Rattle.control.specs.Reserve.{DiskDeed, UsesRoom}
 use Rattle.control.specs.Tasks.{Ordered}
-use Rattle.control.specs.declared.reserve.RoomDeed.{RoomDeed}
 use Rattle.orders.specs.declared.command.RegistryCommand.TheVariants.{KeyRevoke}
 use Rattle.orders.specs.declared.outcome.Outcome.{Outcome}
 use Rattle.control.proofs.ListingLemmas.{only_read}
 use Rattle.control.proofs.TaskLemmas.{tasks_more, tasks_ordered, tasks_read}
 
-module _ (old mid new : Shown) (deeds deeds_new : List RoomDeed) (f : List ℕ) where
+module _ (old mid new : Shown) (deeds deeds_new : List DiskDeed) (f : List ℕ) where
   -- what was so of a later moment is so of an earlier one
   later_room : (told : Result RegistryReply StoreFault) → old.failures ≤ mid.failures
       → UsesRoom mid new deeds deeds_new told → UsesRoom old new deeds deeds_new told
@@ -57,7 +56,7 @@ module _ (old mid new : Shown) (deeds deeds_new : List RoomDeed) (f : List ℕ) 
     room = later_room told (only_read old mid _ _ reads).no_fewer room;
   }
 
-module _ (old new : Shown) (deeds : List RoomDeed) (f : List ℕ) where
+module _ (old new : Shown) (deeds : List DiskDeed) (f : List ℕ) where
   -- no key was found, or several
   pub none_named : Reads old new (Ok None) (λ w. only_with (keys_in w) f)
       → RevokesNamed old new deeds deeds f (outcome_of (Ok NoKey)) None

@@ -22,7 +22,7 @@ use Rattle.control.specs.Hearing as hearing
 use Rattle.control.specs.Noted.{AreForPeer}
 use Rattle.control.specs.Notices.{WritesLines}
 use Rattle.control.specs.Progress.{IsOver}
-use Rattle.control.specs.Reserve.{DoesMore, Lent, Renews}
+use Rattle.control.specs.Reserve.{DoesMore, Lent, Renews, once_begun}
 use Rattle.control.specs.Serving.{AllTold, EndsBy, Instant, ObeysMeanwhile}
 use Rattle.control.specs.Serving.{Serves, ServesMeanwhile, ServesPeer, TakesTurn}
 use Rattle.control.specs.Serving.{TakesTurns, TakesTurnsBy, connected, tally_after}
@@ -266,7 +266,8 @@ module _ {P O : Type 0} (heeded : O → Account × Reads) (told : O → Option (
         → Takes Waiting door mid (Operator before) → known.is_new (Operator before) → p.stops ≡ false
         → Does mid watching [] deed.Watched → IsToldThere heeded told before after (Some (hearing.Made making)) said
         → (said ≡ Ok (spoken.Outcome Stopping) → ⊥)
-        → made s t making → From true watching last q r e f k l s m → IsOnlyRead (shown m) (shown t) → ¬ IsBusy making
+        → made s t making → From true watching last q r e f (once_begun making k) l s m
+        → IsOnlyRead (shown m) (shown t) → ¬ IsBusy making
         → WritesTrace (Some (hearing.Made making)) said f.0 g.0 → g.1 ≡ f.1 → Renews l n
         → EndsOperator last end after
         → q.tally ≡ p.tally → q.left ≡ p.left → q.taken ≡ p.taken + 1 → q.stops ≡ p.stops
@@ -301,7 +302,7 @@ module _ {P O : Type 0} (heeded : O → Account × Reads) (told : O → Option (
               (ends_append p.stops q.stops r.stops (call ∷ []) ys
               (goes_on p.stops q.stops going stops call never) next.ends);
           traces = traces_around x ys e f g begun next.traces trace faults;
-          uses = uses_around x making ys k l n refl next.uses renews;
+          uses = uses_around x making ys k l n refl begun next.uses renews;
         }
 
     -- ---- from the beginning to the end
@@ -417,7 +418,8 @@ module _ {P O : Type 0} (heeded : O → Account × Reads) (told : O → Option (
         → (last ≡ mid) × (b ≡ a) × (f ≡ e) × DoesMore (IsUseIf heard) k l)
         (turns : (making : Making) → meanwhile making
         → (watching : Door (Caller P O)) × (m : S) × Does mid watching [] deed.Watched
-        × From true watching last a b e f k l s m × IsOnlyRead (shown m) (shown t) × ¬ IsBusy making)
+        × From true watching last a b e f (once_begun making k) l s m × IsOnlyRead (shown m) (shown t)
+        × ¬ IsBusy making)
         (operator gone : O) (stops : Bool) (takes : Takes Waiting door mid (Operator operator))
         (fresh : known.is_new (Operator operator)) (going : p.stops ≡ false)
         (next : ObeysOne heeded told (made s t)

@@ -1,5 +1,5 @@
 -- What orders do to the reserve, one after another.
-use Rattle.std.proofs.Common.{◌≡◌, ◌∙◌, ◌+◌, ℕ, List, [], ◌∷◌, ◌++◌, All, Option, Some, None, Result, Err}
+use Rattle.std.proofs.Common.{◌≡◌, ◌∙◌, ◌+◌, ℕ, List, [], ◌∷◌, ◌++◌, All, Option, Some, None, Result, Ok, Err}
 use Rattle.std.proofs.Common.{ap, refl, subst, sym}
 use Rattle.std.proofs.Common.{append_assoc, append-nil, arith, false, inl, inr, true}
 use Rattle.std.proofs.lemmas.List.{length-append}
@@ -11,37 +11,38 @@ use Rattle.world.specs.Store.{Shown}
 use Rattle.world.specs.declared.registry.RegistryReply.{RegistryReply}
 use Rattle.world.specs.declared.registry.StoreFault.{StoreFault}
 use Rattle.world.specs.declared.registry.StoreFault.TheVariants.{Device}
-use Rattle.control.specs.Copying.{Making}
+use Rattle.control.specs.Copying.{Making, IsBusy, OfKey, ToPath}
 use Rattle.control.specs.Hearing.{Heard, Carried, Made, Listed, Pinged, Named, Stop, NoOrder, NoMemory, UsesRoomIf}
 use Rattle.control.specs.Naming.{NamesOne, NamesNone, ReadError}
-use Rattle.control.specs.Reserve.{DoesMore, FindsNone, GivesUp, IsRenewal, IsUse, Lent, Renews, UsesRoom}
+use Rattle.control.specs.Reserve.{BeganCopy, DiskDeed, DoesMore, FindsNone, GaveUp, GivesUp, IsRenewal, IsUse, Lent}
+use Rattle.control.specs.Reserve.{Renewed, Renews, UsesRoom, begun_for, once_begun}
 use Rattle.control.specs.Uses.{HasUse, HasUses, IsUseIf, UsesOnce}
 use Rattle.control.specs.Visits.{Audience, Call, ObeysOne, OfOperator, OfPeer, Untaken}
 use Rattle.control.specs.declared.health.Health.{Health}
-use Rattle.control.specs.declared.reserve.RoomDeed.{RoomDeed}
-use Rattle.control.specs.declared.reserve.RoomDeed.TheVariants.{GaveUp, Renewed}
+use Rattle.control.specs.declared.copies.CatalogRefusal.TheVariants as unprinted
+use Rattle.control.specs.declared.copies.CopyRefusal.TheVariants as refusal
 use Rattle.control.proofs.OrderedLemmas.{Ordered, Other, ToMake, ordered_if}
 
 -- ---- one order
 
 -- a list is not one that goes on behind it
-no_longer : (deeds more : List RoomDeed) (deed : RoomDeed) → deeds ≡ deeds ++ deed ∷ more → ⊥
+no_longer : (deeds more : List DiskDeed) (deed : DiskDeed) → deeds ≡ deeds ++ deed ∷ more → ⊥
 no_longer deeds more deed is = omega (arith, ap length is, length-append deeds (deed ∷ more))
 
 device_of : (result : Result RegistryReply StoreFault) → result ≡ Err Device → IsErrOf result Device
 device_of result is = subst (λ r. IsErrOf r Device) (sym is) refl
 
 -- where nothing was done, the order did not end with a fault of the disk
-met_none : (old new : Shown) (deeds : List RoomDeed) (result : Result RegistryReply StoreFault)
+met_none : (old new : Shown) (deeds : List DiskDeed) (result : Result RegistryReply StoreFault)
     → UsesRoom old new deeds deeds result → result ≡ Err Device → ⊥
 met_none old new deeds result uses is = elim (uses.device (device_of result is)) [
   | inl none ↦ no_longer deeds [] (GaveUp false) none
   | inr given ↦ no_longer deeds (Renewed ∷ []) (GaveUp true) given.0
 ]
 
-use_of_room : (old new : Shown) (deeds deeds_new : List RoomDeed) (result : Result RegistryReply StoreFault)
+use_of_room : (old new : Shown) (deeds deeds_new : List DiskDeed) (result : Result RegistryReply StoreFault)
     → UsesRoom old new deeds deeds_new result
-    → (own : List RoomDeed) × (deeds_new ≡ deeds ++ own) × IsUse result own
+    → (own : List DiskDeed) × (deeds_new ≡ deeds ++ own) × IsUse result own
 use_of_room old new deeds deeds_new result uses = elim uses.renewed [
   | inl same ↦ (
     [],
@@ -52,16 +53,16 @@ use_of_room old new deeds deeds_new result uses = elim uses.renewed [
   | inr (inr given) ↦ (GaveUp true ∷ Renewed ∷ [], given, inr (inr refl))
 ]
 
-unused : (deeds deeds_new : List RoomDeed) → deeds_new ≡ deeds
-    → (own : List RoomDeed) × (deeds_new ≡ deeds ++ own) × (own ≡ [])
+unused : (deeds deeds_new : List DiskDeed) → deeds_new ≡ deeds
+    → (own : List DiskDeed) × (deeds_new ≡ deeds ++ own) × (own ≡ [])
 unused deeds deeds_new same = ([], same ∙ sym (append-nil deeds), refl)
 
-use_of : (old new : Shown) (deeds deeds_new : List RoomDeed) (heard : Option Heard)
+use_of : (old new : Shown) (deeds deeds_new : List DiskDeed) (heard : Option Heard)
     → UsesRoomIf old new deeds deeds_new heard
-    → (own : List RoomDeed) × (deeds_new ≡ deeds ++ own) × IsUseIf heard own
+    → (own : List DiskDeed) × (deeds_new ≡ deeds ++ own) × IsUseIf heard own
 use_of old new deeds deeds_new None uses = unused deeds deeds_new uses
 use_of old new deeds deeds_new (Some (Carried command told)) uses = use_of_room old new deeds deeds_new told uses
-use_of old new deeds deeds_new (Some (Made making)) uses = unused deeds deeds_new uses
+use_of old new deeds deeds_new (Some (Made making)) uses = (begun_for making, uses, refl)
 use_of old new deeds deeds_new (Some (Pinged told)) uses = unused deeds deeds_new uses
 use_of old new deeds deeds_new (Some (Listed listing told)) uses = unused deeds deeds_new uses
 use_of old new deeds deeds_new (Some (Named f (NamesOne key told))) uses = use_of_room old new deeds deeds_new told uses
@@ -78,17 +79,17 @@ used_so old new a b heard same uses =
     let used = use_of old new a.0 b.0 heard uses in (same, used.0, used.1, used.2)
 
 -- so it is under another name of the loan
-pub used_behind : (does : List RoomDeed → Type 0) (name : ℕ) (a b : Lent) → DoesMore does a b
+pub used_behind : (does : List DiskDeed → Type 0) (name : ℕ) (a b : Lent) → DoesMore does a b
     → DoesMore does (a.0, name) (b.0, name)
 used_behind does name a b used = (refl, used.1, used.2, used.3)
 
 -- nothing was done to it
-pub used_none : (does : List RoomDeed → Type 0) (a : Lent) → does [] → DoesMore does a a
+pub used_none : (does : List DiskDeed → Type 0) (a : Lent) → does [] → DoesMore does a a
 used_none does a none = (refl, [], sym (append-nil a.0), none)
 
 -- this, and then that
-pub used_then : (one two both : List RoomDeed → Type 0) (a b c : Lent)
-    → ((xs ys : List RoomDeed) → one xs → two ys → both (xs ++ ys))
+pub used_then : (one two both : List DiskDeed → Type 0) (a b c : Lent)
+    → ((xs ys : List DiskDeed) → one xs → two ys → both (xs ++ ys))
     → DoesMore one a b → DoesMore two b c → DoesMore both a c
 used_then one two both a b c so (same, xs, is, does) (same_then, ys, is_then, does_then) = (
   same_then ∙ same,
@@ -115,19 +116,36 @@ pub uses_once : (heard : Option Heard) (a b c : Lent) → DoesMore (IsUseIf hear
 uses_once heard a b c one two =
     used_then (IsUseIf heard) (All IsRenewal) (HasUse heard) a b c (λ own rest is are. (own, rest, refl, is, are)) one two
 
--- an order that has something made does nothing to it by itself
-pub used_made : (a : Lent) (heard : Option Heard) (making : Making) → heard ≡ Some (Made making)
+-- where another one is being made, none is begun
+none_begun : (making : Making) → IsBusy making → [] ≡ begun_for making
+none_begun (ToPath path told) busy = subst (λ r. [] ≡ begun_for (ToPath path r)) (sym busy) refl
+none_begun (OfKey key printed told) busy = refl
+
+-- of a copy that is begun, that is noted
+began_for : (making : Making) → ¬ IsBusy making → (a : Lent) → DoesMore (λ own. own ≡ begun_for making) a (once_begun making a)
+began_for (ToPath path (Ok done)) free a = (refl, BeganCopy path ∷ [], refl, refl)
+began_for (ToPath path (Err refusal.NotEmpty)) free a = (refl, BeganCopy path ∷ [], refl, refl)
+began_for (ToPath path (Err refusal.Device)) free a = (refl, BeganCopy path ∷ [], refl, refl)
+began_for (ToPath path (Err refusal.Memory)) free a = (refl, BeganCopy path ∷ [], refl, refl)
+began_for (ToPath path (Err refusal.Busy)) free a = absurd (free refl)
+began_for (ToPath path (Err refusal.Ended)) free a = (refl, BeganCopy path ∷ [], refl, refl)
+began_for (OfKey key printed told) free a = used_none (λ own. own ≡ []) a refl
+
+-- an order that has something made while another is made does nothing to it
+pub used_busy : (a : Lent) (heard : Option Heard) (making : Making) → heard ≡ Some (Made making) → IsBusy making
     → DoesMore (IsUseIf heard) a a
-used_made a heard making is = used_none (IsUseIf heard) a (subst (λ h. IsUseIf h []) (sym is) refl)
+used_busy a heard making is busy =
+    used_none (IsUseIf heard) a (subst (λ h. IsUseIf h []) (sym is) (none_begun making busy))
 
 -- so it is of either kind
 used_either : (idle : Option Heard → Type 0) (meanwhile : Making → Type 0) (old new : Shown) (heard : Option Heard)
     (a b : Lent)
-    → (idle heard → DoesMore (IsUseIf heard) a b) → ((making : Making) → meanwhile making → b ≡ a)
+    → (idle heard → DoesMore (IsUseIf heard) a b)
+    → ((making : Making) → meanwhile making → (b ≡ a) × IsBusy making)
     → Ordered idle meanwhile old new heard → DoesMore (IsUseIf heard) a b
 used_either idle meanwhile old new heard a b one two (Other rests through short) = one rests
 used_either idle meanwhile old new heard a b one two (ToMake making is done) =
-    subst (DoesMore (IsUseIf heard) a) (sym (two making done)) (used_made a heard making is)
+    subst (DoesMore (IsUseIf heard) a) (sym (two making done).0) (used_busy a heard making is (two making done).1)
 
 -- so it is of an operator who was obeyed
 pub used_one : {O : Type 0} (heeded : O → Account × Reads) (told : O → Option (List ℕ) × Writes)
@@ -135,7 +153,7 @@ pub used_one : {O : Type 0} (heeded : O → Account × Reads) (told : O → Opti
     (idle : Option Heard → Type 0) (meanwhile : Making → Type 0) (old new : Shown) (operator gone : O) (stops : Bool)
     (a b : Lent) (next : ObeysOne heeded told made pinged idle meanwhile operator gone stops old new)
     → ((heard : Option Heard) → idle heard → DoesMore (IsUseIf heard) a b)
-    → ((making : Making) → meanwhile making → b ≡ a) → DoesMore (IsUseIf next.audience.heard) a b
+    → ((making : Making) → meanwhile making → (b ≡ a) × IsBusy making) → DoesMore (IsUseIf next.audience.heard) a b
 used_one heeded told made pinged idle meanwhile old new operator gone stops a b next one two =
     used_either idle meanwhile old new next.audience.heard a b (one next.audience.heard) two
     (ordered_if idle meanwhile old new next.audience.heard next.through)
@@ -143,7 +161,7 @@ used_one heeded told made pinged idle meanwhile old new operator gone stops a b 
 -- ---- one after another
 
 module _ {P O : Type 0} where
-  uses_front : (calls : List (Call P O)) (others deeds : List RoomDeed) → All IsRenewal others → HasUses calls deeds
+  uses_front : (calls : List (Call P O)) (others deeds : List DiskDeed) → All IsRenewal others → HasUses calls deeds
       → HasUses calls (others ++ deeds)
   uses_front [] others deeds are has = All-append IsRenewal others deeds are has
   uses_front (OfPeer visit answered ∷ calls) others deeds are has = uses_front calls others deeds are has
@@ -158,7 +176,7 @@ module _ {P O : Type 0} where
   )
   uses_front (Untaken ∷ calls) others deeds are has = uses_front calls others deeds are has
 
-  uses_both : (xs ys : List (Call P O)) (deeds others : List RoomDeed) → HasUses xs deeds → HasUses ys others
+  uses_both : (xs ys : List (Call P O)) (deeds others : List DiskDeed) → HasUses xs deeds → HasUses ys others
       → HasUses (xs ++ ys) (deeds ++ others)
   uses_both [] ys deeds others one two = uses_front ys deeds others one two
   uses_both (OfPeer visit answered ∷ xs) ys deeds others one two = uses_both xs ys deeds others one two
@@ -188,19 +206,23 @@ module _ {P O : Type 0} where
 
   -- an operator who had something made, with those who were served meanwhile
   pub uses_around : (x : Audience O) (making : Making) (calls : List (Call P O)) (a b c : Lent)
-      → x.heard ≡ Some (Made making) → DoesMore (HasUses calls) a b → Renews b c
+      → x.heard ≡ Some (Made making) → ¬ IsBusy making → DoesMore (HasUses calls) (once_begun making a) b → Renews b c
       → DoesMore (HasUses (OfOperator x ∷ calls)) a c
-  uses_around x making calls a b c is among renewed =
-      used_then (HasUses calls) (All IsRenewal) (HasUses (OfOperator x ∷ calls)) a b c
-      (λ deeds others has are. (
+  uses_around x making calls a b c is free among renewed =
+      let behind = used_then (HasUses calls) (All IsRenewal) (HasUses calls) (once_begun making a) b c
+      (λ deeds others has are.
+      subst (λ ys. HasUses ys (deeds ++ others)) (append-nil calls) (uses_both calls [] deeds others has are))
+      among renewed in
+      used_then (λ own. own ≡ begun_for making) (HasUses calls) (HasUses (OfOperator x ∷ calls)) a (once_begun making a) c
+      (λ own rest begun has. (
         [],
-        [],
-        deeds ++ others,
+        own,
+        rest,
         refl,
         All-nil IsRenewal,
-        subst (λ h. IsUseIf h []) (sym is) refl,
-        subst (λ ys. HasUses ys (deeds ++ others)) (append-nil calls) (uses_both calls [] deeds others has are),
-      )) among renewed
+        subst (λ h. IsUseIf h own) (sym is) begun,
+        has,
+      )) (began_for making free a) behind
 
 -- nobody
 pub uses_none : (P O : Type 0) (a : Lent) → DoesMore (HasUses {P = P} {O = O} []) a a

@@ -22,13 +22,12 @@ use Rattle.control.specs.Naming.{Finds, Naming, UsesRoomNamed, named_notice, nam
 use Rattle.control.specs.Noted.{IsNoted, Noted}
 use Rattle.control.specs.Notices as notice
 use Rattle.control.specs.Outcome.{outcome_of, outcome_of_catalog, outcome_of_copy}
-use Rattle.control.specs.Reserve.{UsesRoom}
+use Rattle.control.specs.Reserve.{DiskDeed, UsesRoom, begun_for}
 use Rattle.control.specs.ControlReply.{bytes_told}
 use Rattle.control.specs.Tasks.{Ordered}
 use Rattle.control.specs.declared.copies.CatalogRefusal.{CatalogRefusal}
 use Rattle.control.specs.declared.copies.CatalogRefusal.TheVariants as catalog
 use Rattle.control.specs.declared.health.Health.{Health}
-use Rattle.control.specs.declared.reserve.RoomDeed.{RoomDeed}
 use Rattle.orders.specs.declared.listing.Listing.{Listing}
 use Rattle.orders.specs.declared.command.RegistryCommand.{RegistryCommand}
 use Rattle.orders.specs.declared.outcome.Outcome.TheVariants.{Failed, Stopping, Bad}
@@ -172,14 +171,16 @@ ListsBy old new (Listed listing told) = ReadsList old new listing told
 ListsBy old new (Named f naming) = Finds old new f naming
 ListsBy old new other = Unit {0}
 
--- what was ordered did this to the reserve: a registry command what `UsesRoom` says, and another order nothing
-abbrev pub UsesRoomFor : Shown → Shown → List RoomDeed → List RoomDeed → Heard → Type 0
+-- what was ordered did this to the reserve: a registry command what `UsesRoom` says, and another order nothing; of a
+-- copy it is noted that it was begun
+abbrev pub UsesRoomFor : Shown → Shown → List DiskDeed → List DiskDeed → Heard → Type 0
 UsesRoomFor old new deeds deeds_new (Carried command told) = UsesRoom old new deeds deeds_new told
 UsesRoomFor old new deeds deeds_new (Named f naming) = UsesRoomNamed old new deeds deeds_new naming
+UsesRoomFor old new deeds deeds_new (Made making) = deeds_new ≡ deeds ++ begun_for making
 UsesRoomFor old new deeds deeds_new other = deeds_new ≡ deeds
 
 -- so it is of what was heard, if something was
-abbrev pub UsesRoomIf : Shown → Shown → List RoomDeed → List RoomDeed → Option Heard → Type 0
+abbrev pub UsesRoomIf : Shown → Shown → List DiskDeed → List DiskDeed → Option Heard → Type 0
 UsesRoomIf old new deeds deeds_new None = deeds_new ≡ deeds
 UsesRoomIf old new deeds deeds_new (Some heard) = UsesRoomFor old new deeds deeds_new heard
 
@@ -242,7 +243,7 @@ module _ (made : Making → Type 0) (pinged : Result Health StoreFault → Type 
 -- So it was between two stores, by what is known of copies, of counts and of the reserve, with the tally of the moment.
 module _ {S K : Type 0} (shown : S → Shown) (made : S → S → Making → Type 0)
     (counted : S → S → ℕ → Type 0) (meanwhile : K → K → S → S → Making → Type 0) (rests : K → K → Type 0)
-    (deeds : K → List RoomDeed) (tally : Tally) (copies copies_new : K) (old new : S) where
+    (deeds : K → List DiskDeed) (tally : Tally) (copies copies_new : K) (old new : S) where
   -- the order used the reserve, and all else stays
   abbrev pub RestsBy : Option Heard → Type 0
   RestsBy heard =

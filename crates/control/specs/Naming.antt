@@ -12,9 +12,8 @@ use Rattle.control.specs.Copying.{Step, LookedUp, OfTask, GoesThroughSteps}
 use Rattle.control.specs.Noted.{IsNoted, Noted}
 use Rattle.control.specs.Notices as notice
 use Rattle.control.specs.Outcome.{outcome_of}
-use Rattle.control.specs.Reserve.{UsesRoom}
+use Rattle.control.specs.Reserve.{DiskDeed, UsesRoom}
 use Rattle.control.specs.Tasks.{Ordered}
-use Rattle.control.specs.declared.reserve.RoomDeed.{RoomDeed}
 use Rattle.orders.specs.declared.command.RegistryCommand.TheVariants.{KeyRevoke}
 use Rattle.orders.specs.declared.outcome.Outcome.{Outcome}
 
@@ -56,14 +55,14 @@ Finds old new f NamesNone = IsFound old new f None
 Finds old new f (ReadError fault) = Unit {0}
 
 -- what this did to the reserve: the registry command what `UsesRoom` says, and the look nothing
-abbrev pub UsesRoomNamed : Shown → Shown → List RoomDeed → List RoomDeed → Naming → Type 0
+abbrev pub UsesRoomNamed : Shown → Shown → List DiskDeed → List DiskDeed → Naming → Type 0
 UsesRoomNamed old new deeds deeds_new (NamesOne key told) = UsesRoom old new deeds deeds_new told
 UsesRoomNamed old new deeds deeds_new NamesNone = deeds_new ≡ deeds
 UsesRoomNamed old new deeds deeds_new (ReadError fault) = deeds_new ≡ deeds
 
 -- From old to new the key with this fingerprint was looked up, and revoked if it was found, with the reserve if the
 -- disk was full, and this came of it, and is noted.
-pub record RevokesNamed (old new : Shown) (deeds deeds_new : List RoomDeed) (f : List ℕ) (outcome : Outcome)
+pub record RevokesNamed (old new : Shown) (deeds deeds_new : List DiskDeed) (f : List ℕ) (outcome : Outcome)
     (noted : Option Noted) : Type 0 where
   pub naming : Naming
   pub through : GoesThroughSteps old new (named_steps f naming)

@@ -1,4 +1,5 @@
--- The room on the disk of a store that an order gives up when it meets a fault of the disk.
+-- The room on the disk of a store that an order gives up when it meets a fault of the disk, and the copies of the
+-- store that are begun.
 use Rattle.std.specs.Prelude.{ℕ, ◌≡◌, ◌≤◌, ◌+◌, ◌-◌, ◌^◌, ◌⊎◌, ◌++◌, Bool, true, false, List, [], ◌∷◌, All}
 use Rattle.std.specs.Prelude.{Result, Err, IsErrOf}
 use Rattle.std.specs.Borrow.{MutBor}
@@ -9,8 +10,19 @@ use Rattle.world.specs.declared.registry.StoreFault.{StoreFault}
 use Rattle.world.specs.declared.registry.StoreFault.TheVariants.{Device}
 use Rattle.control.specs.declared.reserve.Room.{Room}
 use Rattle.control.specs.declared.reserve.Room.TheVariants.{Whole, Short, Missing}
-use Rattle.control.specs.declared.reserve.RoomDeed.{RoomDeed}
-use Rattle.control.specs.declared.reserve.RoomDeed.TheVariants.{Made, GaveUp, Renewed}
+use Rattle.control.specs.Copying.{Making, ToPath, OfKey}
+use Rattle.control.specs.declared.copies.CopyRefusal.TheVariants.{Busy}
+
+-- what was done on the disk of a served store, beside the store
+pub data DiskDeed : Type 0 where
+  -- the reserve was made, or one that was there was filled, and all of it is there or not
+  Made : Bool → DiskDeed
+  -- room was asked for, and there was some to give up or none
+  GaveUp : Bool → DiskDeed
+  -- as much of it as the disk has room for was taken again
+  Renewed : DiskDeed
+  -- a copy to a file with this path was begun
+  BeganCopy : List ℕ → DiskDeed
 
 -- all of the room is there
 abbrev pub is_whole : Room → Bool
@@ -27,15 +39,15 @@ abbrev pub GrewTwiceOrFull : ℕ → ℕ → Type 0
 GrewTwiceOrFull before now = (before + 2 ≤ now) ⊎ (2 ^ 64 - 1 ≤ now)
 
 -- no room was there to be given up
-abbrev pub FindsNone : List RoomDeed → List RoomDeed → Type 0
+abbrev pub FindsNone : List DiskDeed → List DiskDeed → Type 0
 FindsNone deeds deeds_new = deeds_new ≡ deeds ++ GaveUp false ∷ []
 
 -- room was given up, and then taken again
-abbrev pub GivesUp : List RoomDeed → List RoomDeed → Type 0
+abbrev pub GivesUp : List DiskDeed → List DiskDeed → Type 0
 GivesUp deeds deeds_new = deeds_new ≡ deeds ++ GaveUp true ∷ Renewed ∷ []
 
 -- what an order that ended so did to the reserve
-pub record UsesRoom (old new : Shown) (deeds deeds_new : List RoomDeed) (result : Result RegistryReply StoreFault) :
+pub record UsesRoom (old new : Shown) (deeds deeds_new : List DiskDeed) (result : Result RegistryReply StoreFault) :
     Type 0 where
   -- nothing, unless a disk failed
   pub cause : (deeds_new ≡ deeds) ⊎ GrewOrFull old.failures new.failures
@@ -48,29 +60,41 @@ pub record UsesRoom (old new : Shown) (deeds deeds_new : List RoomDeed) (result 
       ⊎ (GivesUp deeds deeds_new × GrewTwiceOrFull old.failures new.failures)
 
 -- room was taken again
-abbrev pub IsRenewal : RoomDeed → Type 0
+abbrev pub IsRenewal : DiskDeed → Type 0
 IsRenewal Renewed = Unit {0}
 IsRenewal (Made is_whole) = ⊥
 IsRenewal (GaveUp some) = ⊥
+IsRenewal (BeganCopy path) = ⊥
 
 -- What an order that ended so did to the reserve, whatever the store had met before it: nothing, which is not so where
 -- it ended with a fault of the disk; it found no room, and ended with that fault; or it gave room up, and took it again.
-abbrev pub IsUse : Result RegistryReply StoreFault → List RoomDeed → Type 0
+abbrev pub IsUse : Result RegistryReply StoreFault → List DiskDeed → Type 0
 IsUse result own = ((own ≡ []) × ¬ (result ≡ Err Device))
     ⊎ (((own ≡ GaveUp false ∷ []) × (result ≡ Err Device)) ⊎ (own ≡ GaveUp true ∷ Renewed ∷ []))
 
+-- what is noted of something that was to be made: that a copy was begun, unless another one was being made
+abbrev pub begun_for : Making → List DiskDeed
+begun_for (ToPath path (Err Busy)) = []
+begun_for (ToPath path other) = BeganCopy path ∷ []
+begun_for (OfKey key printed told) = []
+
 -- what was done to the reserve of a server so far, and the name of its loan
 abbrev pub Lent : Type 0
-Lent = List RoomDeed × ℕ
+Lent = List DiskDeed × ℕ
 
 -- the reserve as a server has it
-abbrev pub lent : {M : Type 0} → (M → List RoomDeed) → MutBor M → Lent
+abbrev pub lent : {M : Type 0} → (M → List DiskDeed) → MutBor M → Lent
 lent deeds reserve = (deeds reserve.now, reserve.ghost_name)
 
+-- the reserve once this was begun
+abbrev pub once_begun : Making → Lent → Lent
+once_begun (ToPath path told) lent = (lent.0 ++ BeganCopy path ∷ [], lent.1)
+once_begun (OfKey key printed told) lent = lent
+
 -- to the same reserve this was done, and nothing else
-abbrev pub DoesMore : (does : List RoomDeed → Type 0) → Lent → Lent → Type 0
+abbrev pub DoesMore : (does : List DiskDeed → Type 0) → Lent → Lent → Type 0
 DoesMore does lent lent_new =
-    (lent_new.1 ≡ lent.1) × (more : List RoomDeed) × (lent_new.0 ≡ lent.0 ++ more) × does more
+    (lent_new.1 ≡ lent.1) × (more : List DiskDeed) × (lent_new.0 ≡ lent.0 ++ more) × does more
 
 -- room was taken again, any number of times, and nothing else was done to the reserve
 abbrev pub Renews : Lent → Lent → Type 0

@@ -15,7 +15,7 @@ use Rattle.control.specs.Copying.{Making, AllRead, IsBegun, IsBusy, IsOnlyRead, 
 use Rattle.control.specs.Health.{Answered, IsPinged, with_one}
 use Rattle.control.specs.Notices.{WritesNotices}
 use Rattle.control.specs.Pinging.{TellsHowFar}
-use Rattle.control.specs.Reserve.{DoesMore, Lent}
+use Rattle.control.specs.Reserve.{DoesMore, Lent, once_begun}
 use Rattle.control.specs.Tasks.{GoesThroughTasks}
 use Rattle.control.specs.Traces.{Log, WritesTrace, WritesTraces}
 use Rattle.control.specs.Uses.{HasUses, UsesOnce}
@@ -144,14 +144,16 @@ module _ {P O : Type 0} (heeded : O → Account × Reads) (told : O → Option (
   TakesTurns a b = (by : List (Instant P O S)) × TakesTurnsBy a by b
 
   -- Something was made between two instants. Before it, the operator who was taken last was watched, and had not been
-  -- seen to leave; then came the turns. It was begun, and ended early only for this cause.
+  -- seen to leave, and of a copy it was noted that it is begun; then came the turns. It was begun, and ended early only
+  -- for this cause.
   pub record MakesWatched {L : Type 0} (door : L → Door (Caller P O)) (left : L → Bool) (callers : L)
       (a b : Instant P O S) (cause : Type 0) (making : Making) : Type 0 where
     pub watching : L
     pub watched : Does (door callers) (door watching) [] deed.Watched
     pub here : left watching ≡ false
     pub last : S
-    pub turns : TakesTurns (record a { door = door watching }) (record b { store = last })
+    pub turns : TakesTurns (record a { door = door watching; room = once_begun making a.room })
+        (record b { store = last })
     pub read : IsOnlyRead (shown last) (shown b.store)
     pub begun : IsBegun cause making
 

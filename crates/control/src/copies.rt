@@ -1,5 +1,9 @@
 //! What reads a store that is served: copies of it, the catalogs of its keys, and how much it keeps.
+ghost use Rattle.std.specs.Prelude.{◌≡◌, ◌++◌, [], ◌∷◌};
+ghost use Rattle.control.specs.Reserve.{BeganCopy};
+
 use crate::health::Metrics;
+use crate::reserve::KeepsRoom;
 use histories::ResetDeadline;
 use interleave::between::Between;
 use std::alloc::Global;
@@ -38,6 +42,31 @@ pub enum CatalogRefusal {
     Output,
 }
 
+/// A copy that is begun, to the file of a path. [`Copies::copy`] takes one for each copy. It is noted as it is made,
+/// and nothing else makes one.
+#[derive(Drop)]
+pub struct BegunCopy<'p> {
+    path: &'p str,
+}
+
+impl<'p> BegunCopy<'p> {
+    /// Notes that a copy to this path is begun, and returns it.
+    pub(crate) fn new<V: KeepsRoom>(path: &'p str, reserve: &mut V) -> BegunCopy<'p>
+        ensures path { result.path.now ≡ path.now }
+        ensures noted { V.deeds reserve.new ≡ V.deeds reserve.old ++ BeganCopy path.now ∷ [] }
+    {
+        reserve.note_copy(path);
+        BegunCopy { path }
+    }
+
+    /// Returns the path of its file.
+    pub fn path(&self) -> &'p str
+        ensures { result.now ≡ self.now.path.now }
+    {
+        self.path
+    }
+}
+
 /// What copies a store while it is served, prints the catalogs of its keys, and counts what it keeps.
 pub trait Copies<S: Shelves> {
     ghost use Rattle.std.specs.Prelude.{ℕ, ◌≡◌, ◌≢◌, ◌<◌, ◌≤◌, List, [], Err, IfErr, IfOk, IsErrOf};
@@ -60,8 +89,9 @@ pub trait Copies<S: Shelves> {
     /// Returns the name of the file of the served store, for those who read it.
     fn served(&self) -> &str;
 
-    /// Makes the store of a file, with this path, one of the served store as it is at this moment. It copies a slice at
-    /// a time, and has `between` take a turn after each slice. Beside these turns, the served store is only read.
+    /// Makes the store of a file one of the served store as it is at this moment; the file has the path of the copy
+    /// that is begun. It copies a slice at a time, and has `between` take a turn after each slice. Beside these turns,
+    /// the served store is only read.
     ///
     /// Fails with `NotEmpty` if the file has more than an empty store, is that of the served store, or is missing or
     /// empty while a log stands beside it; with `Device` if it can't be opened, SQLite has a use for it beside a
@@ -69,12 +99,12 @@ pub trait Copies<S: Shelves> {
     fn copy<B: Between<S>>(
         &self,
         shelves: &mut S,
-        path: &str,
+        begun: BegunCopy<'_>,
         between: &mut B,
     ) -> Result<(), CopyRefusal>
         ensures turns { (mid : S) × B.went between.old between.new shelves.old mid
             × IsOnlyRead (S.shown mid) (S.shown shelves.new) }
-        ensures came { made shelves.old shelves.new (ToPath path.now result) }
+        ensures came { made shelves.old shelves.new (ToPath begun.entry.path.now result) }
         // It is begun, so none that is being made is why it fails.
         ensures begun { IfErr result (λ why. why ≢ Busy) }
         ensures ended { IsErrOf result Ended → B.ended between.new };
@@ -126,11 +156,9 @@ pub trait CopyOrders<S: Shelves> {
     ghost use Rattle.std.specs.Prelude.{ℕ, ◌≡◌, ◌<◌, ◌≤◌, ◌++◌, true, List, [], ◌∷◌, Err, IfOk};
     ghost use Rattle.std.specs.Io.KnownBytes.{Appends};
     ghost use Rattle.control.specs.Copying.{IsOnlyRead, Making, OfKey, ToPath};
-    ghost use Rattle.control.specs.Reserve.{LeavesOthers};
+    ghost use Rattle.control.specs.Reserve.{DiskDeed, GaveUp, LeavesOthers, Renewed};
     ghost use Rattle.control.specs.declared.copies.CatalogRefusal.TheVariants as catalog;
     ghost use Rattle.control.specs.declared.health.Metrics.{Metrics};
-    ghost use Rattle.control.specs.declared.reserve.RoomDeed.{RoomDeed};
-    ghost use Rattle.control.specs.declared.reserve.RoomDeed.TheVariants.{GaveUp, Renewed};
     ghost use Rattle.world.specs.Store.{HasCause};
 
     /// What is made of the store: relates it before and after that, and what was made.
@@ -146,8 +174,9 @@ pub trait CopyOrders<S: Shelves> {
     /// it to the store before and after it, and to what was made.
     ghost meanwhile: { Self → Self → S → S → Making → Type 0 };
 
-    /// What was done so far to the room that is kept on the disk of the store, the oldest first.
-    ghost deeds: { Self → List RoomDeed };
+    /// What was done so far with the room that is kept on the disk of the store, and the copies that were begun, the
+    /// oldest first.
+    ghost deeds: { Self → List DiskDeed };
 
     /// What else stays while another order uses that room: relates this value before and after it.
     ghost rests: { Self → Self → Type 0 };

@@ -4,17 +4,6 @@ ghost use Rattle.control.specs.Reserve as spec;
 
 use world::shelves::Shelves;
 
-/// What was done to a reserve.
-#[derive(Clone, Copy, Debug, Drop, PartialEq, Eq)]
-pub enum RoomDeed {
-    /// It was made, or one that was there was filled, and all of it is there or not.
-    Made(bool),
-    /// Room was asked for, and there was some to give up or none.
-    GaveUp(bool),
-    /// As much of it as the disk has room for was taken again.
-    Renewed,
-}
-
 /// How much there is of the room that is kept on a disk.
 #[derive(Clone, Copy, Debug, Drop, PartialEq, Eq)]
 pub enum Room {
@@ -35,14 +24,14 @@ impl Room {
     }
 }
 
-/// What keeps room on the disk of a served store, so that an order can be carried out once the disk is full.
+/// What keeps room on the disk of a served store, so that an order can be carried out once the disk is full. It also
+/// notes the copies of the store that are begun.
 pub trait KeepsRoom {
     ghost use Rattle.std.specs.Prelude.{◌≡◌, ◌++◌, List, [], ◌∷◌};
-    ghost use Rattle.control.specs.declared.reserve.RoomDeed.{RoomDeed};
-    ghost use Rattle.control.specs.declared.reserve.RoomDeed.TheVariants.{Made, Renewed};
+    ghost use Rattle.control.specs.Reserve.{DiskDeed, Made, Renewed, BeganCopy};
 
-    /// What was done to it so far, the oldest first.
-    ghost deeds: { Self → List RoomDeed };
+    /// What was done with the room so far, and the copies that were begun, the oldest first.
+    ghost deeds: { Self → List DiskDeed };
 
     /// Has room kept from now on, and returns whether all of it is there.
     fn make_room(&mut self) -> bool
@@ -51,13 +40,16 @@ pub trait KeepsRoom {
     /// Takes as much of the room again as the disk has, and returns how much that is.
     fn keep_room(&mut self) -> Room
         ensures noted { deeds self.new ≡ deeds self.old ++ Renewed ∷ [] };
+
+    /// Notes that a copy to a file with this path is begun.
+    fn note_copy(&mut self, path: &str)
+        ensures noted { deeds self.new ≡ deeds self.old ++ BeganCopy path.now ∷ [] };
 }
 
 /// Room that is kept on the disk of a store, and can be given up for an order.
 pub trait Reserve<S: Shelves>: KeepsRoom {
     ghost use Rattle.std.specs.Prelude.{◌≡◌, ◌++◌, [], ◌∷◌, true};
-    ghost use Rattle.control.specs.Reserve.{LeavesOthers};
-    ghost use Rattle.control.specs.declared.reserve.RoomDeed.TheVariants.{GaveUp};
+    ghost use Rattle.control.specs.Reserve.{GaveUp, LeavesOthers};
 
     /// Gives the room up, and returns whether there was some. Only a store that can be asked again has some.
     fn give_up_room(&mut self) -> bool

@@ -117,7 +117,7 @@ pub fn serve_both<
 
 /// What was lent to a server.
 #[derive(Drop)]
-struct Lent<'a, L, S, E, V> {
+struct Loans<'a, L, S, E, V> {
     callers: &'a mut L,
     shelves: &'a mut S,
     errors: &'a mut E,
@@ -148,7 +148,7 @@ fn serve_lent<
     since: TimeText,
     connections: u32,
     errors: &'a mut E,
-) -> Lent<'a, L, S, E, V>
+) -> Loans<'a, L, S, E, V>
     requires { shelves.ghost_name ≡ N.name }
     ensures same { result.shelves.ghost_name ≡ shelves.entry.ghost_name }
     ensures same_callers { result.callers.ghost_name ≡ callers.entry.ghost_name }
@@ -194,7 +194,7 @@ fn serve_lent<
     let mut watched: MonitoredStore<'a, N, S> = MonitoredStore::new(alloc, shelves);
     server.serve_each(&mut watched);
     let (callers, errors, reserve) = server.into_parts();
-    Lent {
+    Loans {
         callers,
         shelves: watched.into_inner(),
         errors,

@@ -20,7 +20,7 @@ ghost use Rattle.control.specs.Serving.{ObeysMeanwhile, Serves};
 ghost use Rattle.socket.specs.declared.callers.Caller.{Caller};
 ghost use Rattle.socket.specs.declared.deed.Search.TheVariants.{AtOnce};
 
-use crate::copies::{CatalogRefusal, Copies, CopyOrders, CopyRefusal};
+use crate::copies::{BegunCopy, CatalogRefusal, Copies, CopyOrders, CopyRefusal};
 use crate::health::Metrics;
 use crate::monitored_store::{Loan, MonitoredStore};
 use crate::obeying::note_told;
@@ -541,7 +541,7 @@ impl<
     ghost rests = { λ a b. (b.callers ≡ a.callers) × (b.progress ≡ a.progress)
         × (b.errors ≡ a.errors) × (b.faults ≡ a.faults) × (b.reserve.ghost_name ≡ a.reserve.ghost_name) };
 
-    /// Also notes when the copy was made, if it was.
+    /// Also notes that the copy is begun, and when it was made, if it was.
     fn copy_to(
         &mut self,
         shelves: &mut MonitoredStore<'a, N, S>,
@@ -557,7 +557,8 @@ impl<
         self.copied = shelves.copied;
         self.how_far = Some(CopyProgress { done: 0, all: 0 });
         mem::swap(&mut self.traffic, &mut shelves.traffic);
-        let told = copies.copy(shelves.inner, path, self);
+        let begun = BegunCopy::new(path, self.reserve);
+        let told = copies.copy(shelves.inner, begun, self);
         mem::swap(&mut self.traffic, &mut shelves.traffic);
         if let Err(why) = told {
             return Err(why);

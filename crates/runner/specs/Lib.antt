@@ -4,4 +4,5 @@ pub mod Migrate
 pub mod Opened
 pub mod Command
 pub mod Parts
+pub mod Reserve
 pub mod Written

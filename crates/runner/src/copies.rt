@@ -16,7 +16,7 @@ use crate::slice_pace::SlicePace;
 use catalog::PrintError;
 use catalog::between::{CatalogEnd, print_between};
 use commands::files::size_of_file;
-use control::{CatalogRefusal, Copies, CopyRefusal, Metrics};
+use control::{BegunCopy, CatalogRefusal, Copies, CopyRefusal, Metrics};
 use histories::{ClockFace, ResetDeadline};
 use interleave::between::Between;
 use slices::pace::Pace;
@@ -82,7 +82,7 @@ impl<'a, S: Alter, G: CopyTargets> Copies<SqlShelves<S>> for FileCopies<'a, G> {
     fn copy<B: Between<SqlShelves<S>>>(
         &self,
         shelves: &mut SqlShelves<S>,
-        path: &str,
+        begun: BegunCopy<'_>,
         between: &mut B,
     ) -> Result<(), CopyRefusal> {
         let mut targets = self.targets.afresh();
@@ -92,7 +92,7 @@ impl<'a, S: Alter, G: CopyTargets> Copies<SqlShelves<S>> for FileCopies<'a, G> {
             &mut targets,
             self.db,
             shelves,
-            path,
+            begun.path(),
             between,
         )
     }

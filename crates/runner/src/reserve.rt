@@ -2,7 +2,7 @@
 //! is read and tested, and not proved.
 ghost use Rattle.std.specs.Prelude.{◌≡◌, []};
 
-use control::{KeepsRoom, Reserve, Room, RoomDeed};
+use control::{KeepsRoom, Reserve, Room};
 use sqlite::Alter;
 use std::fs::{self, File, Metadata, OpenOptions};
 use std::io::{self, ErrorKind};
@@ -38,13 +38,26 @@ const MARK: &[u8; 7] = b"packed\n";
 /// The bytes that are written at once.
 const PIECE: [u8; 4_096] = [0; 4_096];
 
-/// The reserve of the store of a file. It notes what is done to it.
+/// What a reserve notes.
+#[derive(Clone, Copy, Debug, Drop, PartialEq, Eq)]
+pub(crate) enum Deed {
+    /// It was made, or one that was there was filled, and all of it is there or not.
+    Made(bool),
+    /// Room was asked for, and there was some to give up or none.
+    GaveUp(bool),
+    /// As much of it as the disk has room for was taken again.
+    Renewed,
+    /// A copy was begun, to a file with the path that is noted beside this.
+    BeganCopy,
+}
+
+/// The reserve of the store of a file. It notes what is done to it, and the copies of the store.
 #[derive(Drop)]
 pub(crate) struct SystemReserve<'a> {
     rt: &'a HostRuntime,
     /// The file of the store.
     db: &'a str,
-    noted: Record<RoomDeed>,
+    noted: Record<Deed>,
 }
 
 impl<'a> SystemReserve<'a> {
@@ -62,26 +75,31 @@ impl<'a> SystemReserve<'a> {
 
 impl<'a> KeepsRoom for SystemReserve<'a> {
     ghost use Rattle.std.specs.Prelude.{map};
+    ghost use Rattle.runner.specs.Reserve.{disk_deed};
 
-    ghost deeds = { λ r. map (λ deed. deed.1) r.noted.deeds };
+    ghost deeds = { λ r. map disk_deed r.noted.deeds };
 
     fn make_room(&mut self) -> bool {
         let is_whole = make(self.rt, self.db);
-        self.noted.note(b"", &RoomDeed::Made(is_whole));
+        self.noted.note(b"", &Deed::Made(is_whole));
         is_whole
     }
 
     fn keep_room(&mut self) -> Room {
         let room = keep(self.rt, self.db);
-        self.noted.note(b"", &RoomDeed::Renewed);
+        self.noted.note(b"", &Deed::Renewed);
         room
+    }
+
+    fn note_copy(&mut self, path: &str) {
+        self.noted.note(path.as_bytes(), &Deed::BeganCopy);
     }
 }
 
 impl<'a, S: Alter> Reserve<SqlShelves<S>> for SystemReserve<'a> {
     fn give_up_room(&mut self) -> bool {
         let given = give_up(self.rt, self.db);
-        self.noted.note(b"", &RoomDeed::GaveUp(given));
+        self.noted.note(b"", &Deed::GaveUp(given));
         given
     }
 }

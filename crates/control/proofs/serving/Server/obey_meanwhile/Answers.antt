@@ -36,7 +36,7 @@ returns-clause-obeys g c =
     let deeds = g.V.KeepsRoom.deeds in
     let name = c.args.self.now.reserve.ghost_name in
     let used = used_one _ _ _ _ _ _ _ _ _ _ _ _ (lent deeds c.obey_with-after.result.1.reserve) obeyed
-    (λ heard rest. used_so _ _ _ _ heard rest.0 rest.1) (λ making done. ap (λ b. lent deeds b.reserve) done.0) in
+    (λ heard rest. used_so _ _ _ _ heard rest.0 rest.1) (λ making done. (ap (λ b. lent deeds b.reserve) done.0, done.2)) in
     let ends : c.self-1.given.0 ≡ c.obey_with-after.result.1.reserve.now = c.self-1.given.1 (sym given.same) in
     let once = uses_once obeyed.audience.heard _ _ _ (used_behind _ name _ _ used) (rw ends at c.tell.ensures.renews) in
     let m = g.M.Moment in

@@ -9,7 +9,7 @@ returns-in-Err-clause-meanwhile g c =
       watched = search rules;
       here = search rules;
       last = turns.0;
-      turns = turns.1;
+      turns = rw c.new-begun.ensures.noted at turns.1;
       read = turns.2;
       begun = search rules;
     }
@@ -22,7 +22,7 @@ returns-clause-meanwhile g c =
       watched = search rules;
       here = search rules;
       last = turns.0;
-      turns = turns.1;
+      turns = rw c.new-begun.ensures.noted at turns.1;
       read = rw c.note_time.ensures.same turns.2;
       begun = search rules;
     }

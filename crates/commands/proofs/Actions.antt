@@ -24,14 +24,14 @@ any_action views shown made counted old new result _ acts = acts
 -- nobody is served
 pub serves_none : {S N P O : Type 0} (views : Views N P O) (shown : S → Shown) (made : Made S) (counted : Counted S)
     (old new : Moment S N) (times : List (Option (List ℕ))) (writes writes_new : Writes)
-    (errors errors_new : Option (List ℕ) × Writes) (deeds : List DiskDeed) (result : Result Bool CommandRefusal)
+    (errors errors_new : Option (List ℕ) × Writes) (file : List ℕ) (deeds : List DiskDeed) (result : Result Bool CommandRefusal)
     (act : Action)
     → ((entrance : ListenOn) (connections : ℕ) (control : Option (Bor (List ℕ)))
     → ¬ (act ≡ action.Serve entrance connections control))
-    → ServesFor views shown made counted old new times writes writes_new errors errors_new deeds deeds result act
-serves_none views shown made counted old new times writes writes_new errors errors_new deeds result
+    → ServesFor views shown made counted old new times writes writes_new errors errors_new file deeds deeds result act
+serves_none views shown made counted old new times writes writes_new errors errors_new file deeds result
     (action.Serve entrance connections control) other = absurd (other entrance connections control refl)
-serves_none views shown made counted old new times writes writes_new errors errors_new deeds result _ other = refl
+serves_none views shown made counted old new times writes writes_new errors errors_new file deeds result _ other = refl
 
 -- it writes nothing to the writer of errors
 pub unwritten : (act : Action) (errors : Option (List ℕ))

@@ -74,30 +74,28 @@ room_lacks noted a b is written =
 
 -- each is written behind those before
 pub lines_of_serve : {P O : Type 0} (versions : Result ℕ StoreFault) (has_room : Bool) (calls : List (Call P O))
-    (file file_left : List ℕ) (one two : Noted) (a b c d e : Option (List ℕ) × Writes)
+    (file : List ℕ) (one two : Noted) (a b c d e : Option (List ℕ) × Writes)
     → IfOk one (λ notice. notice.text ≡ line_of (opened file versions))
     → WritesLines (λ lines. lines ≡ noted_line one ∷ []) a b → WritesLines (AreOfRoom has_room) b c
-    → WritesLines (HasTraces calls) c d → IfOk two (λ notice. notice.text ≡ line_of (Ended file_left))
-    → WritesLines (λ lines. lines ≡ noted_line two ∷ []) d e → WritesLines (AreOfServe versions has_room calls) a e
-lines_of_serve {P} {O} versions has_room calls file file_left one two a b c d e opens first room traces ends last =
+    → WritesLines (HasTraces calls) c d → IfOk two (λ notice. notice.text ≡ line_of (Ended file))
+    → WritesLines (λ lines. lines ≡ noted_line two ∷ []) d e → WritesLines (AreOfServe file versions has_room calls) a e
+lines_of_serve {P} {O} versions has_room calls file one two a b c d e opens first room traces ends last =
     let last_line : List (List ℕ) → Type 0 = λ lines. lines ≡ noted_line two ∷ [] in
     let behind_room : List (List ℕ) → Type 0 =
     λ lines. (between : List (List ℕ)) × HasTraces calls between × (lines ≡ between ++ noted_line two ∷ []) in
     let behind_first : List (List ℕ) → Type 0 =
     λ lines. (about : List (List ℕ)) × (between : List (List ℕ)) × AreOfRoom has_room about × HasTraces calls between
     × (lines ≡ about ++ (between ++ noted_line two ∷ [])) in
-    written_then (λ lines. lines ≡ noted_line one ∷ []) behind_first (AreOfServe versions has_room calls) a b e
+    written_then (λ lines. lines ≡ noted_line one ∷ []) behind_first (AreOfServe file versions has_room calls) a b e
     (λ xs ys is behind. record {
-      file = file;
       first = noted_line one;
       opens = line_for (opened file versions) one opens;
       room = behind.0;
       tells_room = behind.2;
       between = behind.1;
       traces = behind.3;
-      file_left = file_left;
       last = noted_line two;
-      ends = line_for (Ended file_left) two ends;
+      ends = line_for (Ended file) two ends;
       are = ap (λ l. l ++ ys) is ∙ ap (λ l. noted_line one ∷ l) behind.4;
     }) first
     (written_then (AreOfRoom has_room) behind_room behind_first b c e

@@ -147,12 +147,12 @@ module _ {S N P O : Type 0} (views : Views N P O) (shown : S → Shown) (made : 
   -- writer of errors and this reserve, nothing was read from the input or from files, and nothing was drawn
   pub record ServesConnections
       (entrance : ListenOn) (connections : ℕ) (control : Option (List ℕ)) (times : List (Option (List ℕ)))
-      (writes writes_new : Writes) (errors errors_new : Option (List ℕ) × Writes) (deeds deeds_new : List DiskDeed)
+      (writes writes_new : Writes) (errors errors_new : Option (List ℕ) × Writes) (file : List ℕ) (deeds deeds_new : List DiskDeed)
       (result : Result Bool CommandRefusal) : Type 0 where
     pub ended : Result (Unit {0}) CommandRefusal
     pub serves : ListensAs views.heeded views.told views.heard views.written views.known shown made counted
         old.store new.store entrance connections old.written new.written writes writes_new
-        errors errors_new [] times deeds deeds_new (views.door old.outside) (views.door new.outside) ended control
+        errors errors_new file [] times deeds deeds_new (views.door old.outside) (views.door new.outside) ended control
     pub told : result ≡ acceptance ended
     pub came : new.came ≡ old.came
     pub read : views.read new.outside ≡ views.read old.outside
@@ -163,19 +163,20 @@ module _ {S N P O : Type 0} (views : Views N P O) (shown : S → Shown) (made : 
   abbrev pub Acts : Result Bool CommandRefusal → Action → Type 0
   Acts result (action.Serve entrance connections control) =
       (times : List (Option (List ℕ))) × (writes writes_new : Writes) × (errors errors_new : Option (List ℕ) × Writes)
-      × (deeds deeds_new : List DiskDeed)
-      × ServesConnections entrance connections (option_copied control) times writes writes_new errors errors_new deeds
-      deeds_new result
+      × (file : List ℕ) × (deeds deeds_new : List DiskDeed)
+      × ServesConnections entrance connections (option_copied control) times writes writes_new errors errors_new file
+      deeds deeds_new result
   Acts result other = ActsAlone views shown old new result other
 
-  -- so it is of a `serve` whose calendar showed these times, whose output was called so, of its writer of errors, and of
-  -- its reserve; another action does nothing to the reserve
+  -- so it is of a `serve` whose calendar showed these times, whose output was called so, of its writer of errors, of the
+  -- file that it serves, and of its reserve; another action does nothing to the reserve
   abbrev pub ServesFor : List (Option (List ℕ)) → Writes → Writes → Option (List ℕ) × Writes
-      → Option (List ℕ) × Writes → List DiskDeed → List DiskDeed → Result Bool CommandRefusal → Action → Type 0
-  ServesFor times writes writes_new errors errors_new deeds deeds_new result (action.Serve entrance connections control) =
-      ServesConnections entrance connections (option_copied control) times writes writes_new errors errors_new deeds
-      deeds_new result
-  ServesFor times writes writes_new errors errors_new deeds deeds_new result other = deeds_new ≡ deeds
+      → Option (List ℕ) × Writes → List ℕ → List DiskDeed → List DiskDeed → Result Bool CommandRefusal → Action → Type 0
+  ServesFor times writes writes_new errors errors_new file deeds deeds_new result
+      (action.Serve entrance connections control) =
+      ServesConnections entrance connections (option_copied control) times writes writes_new errors errors_new file
+      deeds deeds_new result
+  ServesFor times writes writes_new errors errors_new file deeds deeds_new result other = deeds_new ≡ deeds
 
 -- the action is no `serve`
 abbrev pub IsNoServe : Action → Type 0

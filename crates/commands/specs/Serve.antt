@@ -39,21 +39,19 @@ abbrev pub AreOfRoom : Bool → List (List ℕ) → Type 0
 AreOfRoom true lines = lines ≡ []
 AreOfRoom false lines = (line : List ℕ) × (lines ≡ line ∷ []) × IsLineFor (Reserved (room_told false)) line
 
--- The lines that a `serve` with operators writes: that a store with so many versions was opened, that the reserve lacks
--- room if it does, those that are written while these callers are served, in which each order has its own, and that the
--- store is no longer served.
-pub record AreOfServe {P O : Type 0} (versions : Result ℕ StoreFault) (has_room : Bool) (calls : List (Call P O))
-    (lines : List (List ℕ)) : Type 0 where
-  pub file : List ℕ
+-- The lines that a `serve` with operators writes: that the store of this file was opened, with so many versions, that
+-- the reserve lacks room if it does, those that are written while these callers are served, in which each order has its
+-- own, and that the store of this file is no longer served.
+pub record AreOfServe {P O : Type 0} (file : List ℕ) (versions : Result ℕ StoreFault) (has_room : Bool)
+    (calls : List (Call P O)) (lines : List (List ℕ)) : Type 0 where
   pub first : List ℕ
   pub opens : IsLineFor (opened file versions) first
   pub room : List (List ℕ)
   pub tells_room : AreOfRoom has_room room
   pub between : List (List ℕ)
   pub traces : HasTraces calls between
-  pub file_left : List ℕ
   pub last : List ℕ
-  pub ends : IsLineFor (Ended file_left) last
+  pub ends : IsLineFor (Ended file) last
   pub are : lines ≡ first ∷ (room ++ (between ++ last ∷ []))
 
 -- what is made of a store: a relation of it before and after that, and of what was made
@@ -120,11 +118,11 @@ module _ {P O : Type 0} (heard : P → Account × Reads) (written : P → Option
 -- Callers were served as `EndsEach` says, and their orders used the reserve as they may. Before that, the versions of
 -- the store were counted, which only reads it, and failed only for a cause. The lines of all this were written, and
 -- nothing else, unless a call to write or to flush failed. The writer of errors is what it took, and the calls to it;
--- `has_room` says whether all of the reserve was there before.
+-- `file` is the name of the served file, and `has_room` says whether all of the reserve was there before.
 pub record TellsEach {P O : Type 0} (heeded : O → Account × Reads) (told : O → Option (List ℕ) × Writes)
     (heard : P → Account × Reads) (written : P → Option (List ℕ) × Writes) (known : Known P O)
     {S : Type 0} (shown : S → Shown) (made : Made S) (counted : Counted S) (old new : S) (connections : ℕ)
-    (errors errors_new : Option (List ℕ) × Writes) (since : List ℕ) (has_room : Bool)
+    (errors errors_new : Option (List ℕ) × Writes) (file since : List ℕ) (has_room : Bool)
     (deeds deeds_new : List DiskDeed) (door left : Door (Caller P O)) : Type 0 where
   pub mid : S
   pub counts : IsOnlyRead (shown old) (shown mid)
@@ -132,14 +130,14 @@ pub record TellsEach {P O : Type 0} (heeded : O → Account × Reads) (told : O 
   pub cause : HasCause (shown old) (shown mid) versions
   pub number : IfOk versions (λ n. counted old mid n)
   pub each : EndsEach heeded told heard written shown made counted known door left mid new since connections
-  pub lines : WritesLines (AreOfServe versions has_room each.reads.each.calls) errors errors_new
+  pub lines : WritesLines (AreOfServe file versions has_room each.reads.each.calls) errors errors_new
   pub uses : (more : List DiskDeed) × (deeds_new ≡ deeds ++ more) × HasUses each.reads.each.calls more
 
 module _ {P O : Type 0} (heeded : O → Account × Reads) (told : O → Option (List ℕ) × Writes)
     (heard : P → Account × Reads) (written : P → Option (List ℕ) × Writes) (known : Known P O)
     {S : Type 0} (shown : S → Shown) (made : Made S) (counted : Counted S) (old new : S)
     (entrance : ListenOn) (connections : ℕ) (printed printed_new : Option (List ℕ)) (writes writes_new : Writes)
-    (errors errors_new : Option (List ℕ) × Writes) where
+    (errors errors_new : Option (List ℕ) × Writes) (file : List ℕ) where
   module _ (since : List ℕ) (has_room : Bool) (deeds deeds_new : List DiskDeed) (door left : Door (Caller P O)) where
     -- Peers were let in, and callers were served: peers, and between them operators, until one of these ended it, or
     -- the connections were used up. The lines of that were written. The store went through at most as many requests as
@@ -150,7 +148,7 @@ module _ {P O : Type 0} (heeded : O → Account × Reads) (told : O → Option (
       pub begun : Door (Caller P O)
       pub opens : LetsIn door begun entrance printed printed_new
       pub each : TellsEach heeded told heard written known shown made counted old new connections errors errors_new
-          since has_room deeds deeds_new begun left
+          file since has_room deeds deeds_new begun left
       pub goes : GoesOnRead shown made counted old new since connections
 
     -- so it was, or nothing was served, no line was written, and nothing was done to the reserve

@@ -156,8 +156,8 @@ pub fn act_on<
         })
         result action.now }
     // A `serve` that fails after it let peers in does so because a call of the output failed, and each order has a line
-    // of its own in `errors`, unless a call to write or to flush failed there. Only the orders of a `serve` use the
-    // reserve.
+    // of its own in `errors`, unless a call to write or to flush failed there. The notices of its beginning and its end
+    // name the file that `copies` serves. Only the orders of a `serve` use the reserve and begin copies.
     ensures serves { spec.ServesFor
         (record {
           heeded = both Q.came Q.reads;
@@ -183,7 +183,7 @@ pub fn act_on<
           written = O.contents output.new;
         })
         (D.shown calendar.new) (O.writes output.old) (O.writes output.new)
-        (both E.contents E.writes errors.old) (both E.contents E.writes errors.new)
+        (both E.contents E.writes errors.old) (both E.contents E.writes errors.new) (K.name copies.now)
         (V.deeds reserve.old) (V.deeds reserve.new) result action.now }
     // Only `serve` writes to `errors`, and only notices.
     ensures notes { spec.WritesErrors action.now (E.contents errors.old) (E.contents errors.new) }

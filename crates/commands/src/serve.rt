@@ -63,7 +63,7 @@ pub fn serve<
     ensures serves { ListensAs (both Q.came Q.reads) (both Q.written Q.writes)
         (both P.came P.reads) (both P.written P.writes) N.known S.shown K.made K.counted shelves.old shelves.new
         entrance connections (O.contents output.old) (O.contents output.new) (O.writes output.old) (O.writes output.new)
-        (both E.contents E.writes errors.old) (both E.contents E.writes errors.new)
+        (both E.contents E.writes errors.old) (both E.contents E.writes errors.new) (K.name copies.now)
         (D.shown calendar.old) (D.shown calendar.new) (V.deeds reserve.old) (V.deeds reserve.new)
         (both N.waiting N.history entrances.old) (both N.waiting N.history entrances.new)
         result (option_copied control.entry) }
@@ -148,7 +148,7 @@ fn serve_operators<
     ensures serves { ListensAs (both Q.came Q.reads) (both Q.written Q.writes)
         (both P.came P.reads) (both P.written P.writes) N.known S.shown K.made K.counted shelves.old shelves.new
         entrance connections (O.contents output.old) (O.contents output.new) (O.writes output.old) (O.writes output.new)
-        (both E.contents E.writes errors.old) (both E.contents E.writes errors.new)
+        (both E.contents E.writes errors.old) (both E.contents E.writes errors.new) (K.name copies.now)
         (D.shown calendar.old) (D.shown calendar.new) (V.deeds reserve.old) (V.deeds reserve.new)
         (both N.waiting N.history entrances.old) (both N.waiting N.history entrances.new)
         result (Some path.now) }
@@ -214,7 +214,7 @@ fn serve_callers<
         (both P.came P.reads) (both P.written P.writes) N.known S.shown K.made K.counted shelves.old shelves.new
         entrance connections (O.contents output.old) (O.contents output.new)
         (O.writes output.old) (O.writes output.new)
-        (both E.contents E.writes errors.old) (both E.contents E.writes errors.new) since has_room
+        (both E.contents E.writes errors.old) (both E.contents E.writes errors.new) (K.name copies.now) since has_room
         (V.deeds reserve.old) (V.deeds reserve.new)
         (both N.waiting N.history entrances.old) (both N.waiting N.history entrances.new) result }
     ensures flushed { OnOk result ((O.writes output.new).unflushed ≡ []) }
@@ -266,7 +266,8 @@ fn serve_told<
 )
     ensures each { TellsEach (both Q.came Q.reads) (both Q.written Q.writes)
         (both P.came P.reads) (both P.written P.writes) N.known S.shown K.made K.counted shelves.old shelves.new
-        connections (both E.contents E.writes errors.old) (both E.contents E.writes errors.new) since has_room
+        connections (both E.contents E.writes errors.old) (both E.contents E.writes errors.new) (K.name copies.now)
+        since has_room
         (V.deeds reserve.old) (V.deeds reserve.new)
         (both N.waiting N.history entrances.old) (both N.waiting N.history entrances.new) }
     ensures goes { GoesOnRead S.shown K.made K.counted shelves.old shelves.new since connections }

@@ -86,8 +86,12 @@ pub trait Copies<S: Shelves> {
     /// What is known of the figures of a served store, by the store.
     ghost figured: { S → Metrics → Type 0 };
 
+    /// The name of the file of the served store.
+    ghost name: { Self → List ℕ };
+
     /// Returns the name of the file of the served store, for those who read it.
-    fn served(&self) -> &str;
+    fn served(&self) -> &str
+        ensures { result.now ≡ name self.now };
 
     /// Makes the store of a file one of the served store as it is at this moment; the file has the path of the copy
     /// that is begun. It copies a slice at a time, and has `between` take a turn after each slice. Beside these turns,

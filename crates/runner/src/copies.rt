@@ -75,6 +75,8 @@ impl<'a, S: Alter, G: CopyTargets> Copies<SqlShelves<S>> for FileCopies<'a, G> {
     /// the sizes that the system reports.
     ghost figured = { λ _ f. (f.copied ≡ None) × (f.copying ≡ None) × (f.traffic ≡ None) };
 
+    ghost name = { λ c. c.db.now };
+
     fn served(&self) -> &str {
         self.db
     }

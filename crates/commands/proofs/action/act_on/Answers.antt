@@ -12,6 +12,7 @@ returns-in-Serve-clause-acts g c =
       g.O.Tell.writes c.serve.new.output,
       both g.E.Write.contents g.E.Tell.writes c.args.errors.now,
       both g.E.Write.contents g.E.Tell.writes c.serve.new.errors,
+      g.K.Copies.name c.args.copies.now,
       g.V.KeepsRoom.deeds c.args.reserve.now,
       g.V.KeepsRoom.deeds c.serve.new.reserve,
       record {
@@ -48,4 +49,4 @@ returns-in_default-clause-notes g c =
     unwritten c.args.action.now (g.E.Write.contents c.args.errors.now) c.in_default.not-Serve
 
 pub returns-in_default-clause-serves : goal.returns-in_default-clause-serves
-returns-in_default-clause-serves g c = serves_none _ _ _ _ _ _ _ _ _ _ _ _ _ c.args.action.now c.in_default.not-Serve
+returns-in_default-clause-serves g c = serves_none _ _ _ _ _ _ _ _ _ _ _ _ _ _ c.args.action.now c.in_default.not-Serve

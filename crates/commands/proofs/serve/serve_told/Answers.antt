@@ -14,9 +14,9 @@ returns-clause-each g c =
       cause = c.versions-versions.ensures.cause;
       number = c.versions-versions.ensures.counted;
       each = served.ends;
-      lines = lines_of_serve _ _ served.ends.reads.each.calls c.served.result.now c.served-2.result.now _ _ _ _ _ _ _
-          c.opened.ensures c.tell.ensures.tells c.tell_room.ensures.tells served.traces c.ended.ensures
-          c.tell-2.ensures.tells;
+      lines = lines_of_serve _ _ served.ends.reads.each.calls _ _ _ _ _ _ _ _
+          (rw c.served.ensures at c.opened.ensures) c.tell.ensures.tells c.tell_room.ensures.tells served.traces
+          (rw c.served-2.ensures at c.ended.ensures) c.tell-2.ensures.tells;
       uses = (uses.more, uses.are, uses.uses);
     }
 

@@ -59,11 +59,16 @@ pub fn order_new_at<R: Hear, W: Tell, V: Servers<R, W>, O: Tell>(
     right: Right,
     output: &mut O,
 ) -> Result<(), CommandRefusal>
-    ensures { spec.OrdersNew
+    ensures orders { spec.OrdersNew
         (λ link passed. IsAll (R.account link.reader) (R.reads link.reader)
         (W.contents link.writer) (W.writes link.writer).failed passed)
         path.now (V.history servers.old) (V.history servers.new) shelf.entry right
         (O.contents output.old) (O.contents output.new) result }
+    // If it fails, it printed nothing, unless a call of the output failed.
+    ensures whole { FailsUnprinted (O.contents output.old) (O.contents output.new)
+        (O.writes output.old) (O.writes output.new) result }
+    // What was printed is flushed.
+    ensures flushed { OnOk result ((O.writes output.new).unflushed ≡ []) }
 {
     order_new(
         rt.alloc(),

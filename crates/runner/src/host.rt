@@ -40,10 +40,11 @@ use world::shelves::Shelves;
 /// The system, as a command sees it whose stores are `S`. A closed store leaves a `C`, and an older store is opened as
 /// one.
 pub trait Host<S, C>: FileChecks {
-    ghost use Rattle.std.specs.Prelude.{map as each};
+    ghost use Rattle.std.specs.Prelude.{◌≡◌, [], OnOk, map as each};
     ghost use Rattle.sqlite.specs.State.{State};
     ghost use Rattle.commands.specs.Connection.{IsAll};
     ghost use Rattle.commands.specs.NewKey.{OrdersNew};
+    ghost use Rattle.commands.specs.Printed.{FailsUnprinted};
     ghost use Rattle.runner.specs.Extract.{ExtractsFile};
     ghost use Rattle.runner.specs.Migrate.{MigratesFile};
     ghost use Rattle.world.specs.Store.{Shown};
@@ -95,11 +96,16 @@ pub trait Host<S, C>: FileChecks {
         right: Right,
         output: &mut O,
     ) -> Result<(), CommandRefusal>
-        ensures { OrdersNew
+        ensures orders { OrdersNew
             (λ link passed. IsAll (R.account link.reader) (R.reads link.reader)
             (U.contents link.writer) (U.writes link.writer).failed passed)
             control.now (V.history servers.old) (V.history servers.new) shelf.entry right
-            (O.contents output.old) (O.contents output.new) result };
+            (O.contents output.old) (O.contents output.new) result }
+        // If it fails, it printed nothing, unless a call of the output failed.
+        ensures whole { FailsUnprinted (O.contents output.old) (O.contents output.new)
+            (O.writes output.old) (O.writes output.new) result }
+        // What was printed is flushed.
+        ensures flushed { OnOk result ((O.writes output.new).unflushed ≡ []) };
 }
 
 /// What an action reaches of the system outside of its store and its streams.

@@ -23,7 +23,7 @@ pub returns-in-OrderNew : goal.returns-in-OrderNew
 returns-in-OrderNew g c = ran _ _ _ _ _ _ _ _ _ _ _ _ _ _ _ _ _ _ c.in-OrderNew.is (
   record {
     ended = c.order_new.result;
-    does = c.order_new.ensures;
+    does = c.order_new.ensures.orders;
     tells = c.acceptance-in-OrderNew.ensures;
     input = refl;
     idle = refl;

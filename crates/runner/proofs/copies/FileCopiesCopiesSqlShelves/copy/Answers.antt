@@ -5,5 +5,6 @@ use Rattle.runner.proofs.copies.FileCopiesCopiesSqlShelves.copy.Goals as goal
 pub returns-clause-came : goal.returns-clause-came
 returns-clause-came g c = inl (
   c.copy_to.new.targets,
-  copies_file _ _ _ _ _ _ _ _ _ _ c.afresh-targets.ensures c.copy_to.ensures.came,
+  copies_file _ _ _ _ _ _ _ _ _ _ c.afresh-targets.ensures
+      (rw c.path.ensures at c.copy_to.ensures.came),
 )

@@ -137,7 +137,7 @@ class TestSteps:
         return {item.rpartition("::")[2] for row in rows for item in re.findall(r"`([\w:]+)`", row)}
 
     def test_the_page_names_functions(self, names: set[str]) -> None:
-        assert "serve_told" in names
+        assert "serve_both" in names
 
     def test_the_sources_have_each_of_them(self, proofs: ModuleType, names: set[str]) -> None:
         files = glob.glob("crates/*/src/**/*.rt", root_dir=ROOT, recursive=True)

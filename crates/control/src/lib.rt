@@ -13,6 +13,7 @@
 //! | the operator's side | [`send`]; in steps [`send_order`], [`hear_on`], [`reply_to`] |
 #![tactic(auto)]
 
+mod busy_copies;
 mod carry;
 mod client;
 mod control_reply;

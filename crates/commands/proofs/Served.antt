@@ -11,8 +11,10 @@ use Rattle.control.specs.declared.health.Metrics.{Metrics}
 use Rattle.control.specs.declared.health.Health.{Health}
 use Rattle.control.specs.Noted.{Noted, noted_line}
 use Rattle.control.specs.Notices.{Ended, Occasion, Reserved, WritesLines, line_of, opened, room_told}
-use Rattle.control.specs.Traces.{HasTraces, IsLineFor}
+use Rattle.control.specs.Reserve.{DiskDeed, is_whole}
+use Rattle.control.specs.Traces.{HasAllTraces, IsLineFor}
 use Rattle.control.specs.Visits.{Call}
+use Rattle.control.specs.declared.reserve.Room.{Room}
 use Rattle.control.proofs.NoticeLemmas.{written_so, written_then}
 use Rattle.control.proofs.StepLemmas.{steps_more}
 use Rattle.control.proofs.TaskLemmas.{tasks_read}
@@ -73,20 +75,22 @@ room_lacks noted a b is written =
 -- ---- the lines of a `serve`
 
 -- each is written behind those before
-pub lines_of_serve : {P O : Type 0} (versions : Result ℕ StoreFault) (has_room : Bool) (calls : List (Call P O))
-    (file : List ℕ) (one two : Noted) (a b c d e : Option (List ℕ) × Writes)
+pub lines_of_serve : {P O : Type 0} (versions : Result ℕ StoreFault) (found : Room) (calls : List (Call P O))
+    (more : List DiskDeed) (file : List ℕ) (one two : Noted) (a b c d e : Option (List ℕ) × Writes)
     → IfOk one (λ notice. notice.text ≡ line_of (opened file versions))
-    → WritesLines (λ lines. lines ≡ noted_line one ∷ []) a b → WritesLines (AreOfRoom has_room) b c
-    → WritesLines (HasTraces calls) c d → IfOk two (λ notice. notice.text ≡ line_of (Ended file))
-    → WritesLines (λ lines. lines ≡ noted_line two ∷ []) d e → WritesLines (AreOfServe file versions has_room calls) a e
-lines_of_serve {P} {O} versions has_room calls file one two a b c d e opens first room traces ends last =
+    → WritesLines (λ lines. lines ≡ noted_line one ∷ []) a b → WritesLines (AreOfRoom (is_whole found)) b c
+    → WritesLines (λ lines. HasAllTraces found calls lines more) c d → IfOk two (λ notice. notice.text ≡ line_of (Ended file))
+    → WritesLines (λ lines. lines ≡ noted_line two ∷ []) d e → WritesLines (λ lines. AreOfServe file versions found calls lines more) a e
+lines_of_serve {P} {O} versions found calls more file one two a b c d e opens first room traces ends last =
     let last_line : List (List ℕ) → Type 0 = λ lines. lines ≡ noted_line two ∷ [] in
     let behind_room : List (List ℕ) → Type 0 =
-    λ lines. (between : List (List ℕ)) × HasTraces calls between × (lines ≡ between ++ noted_line two ∷ []) in
+    λ lines. (between : List (List ℕ)) × HasAllTraces found calls between more × (lines ≡ between ++ noted_line two ∷ []) in
     let behind_first : List (List ℕ) → Type 0 =
-    λ lines. (about : List (List ℕ)) × (between : List (List ℕ)) × AreOfRoom has_room about × HasTraces calls between
+    λ lines. (about : List (List ℕ)) × (between : List (List ℕ)) × AreOfRoom (is_whole found) about
+    × HasAllTraces found calls between more
     × (lines ≡ about ++ (between ++ noted_line two ∷ [])) in
-    written_then (λ lines. lines ≡ noted_line one ∷ []) behind_first (AreOfServe file versions has_room calls) a b e
+    written_then (λ lines. lines ≡ noted_line one ∷ []) behind_first
+    (λ lines. AreOfServe file versions found calls lines more) a b e
     (λ xs ys is behind. record {
       first = noted_line one;
       opens = line_for (opened file versions) one opens;
@@ -98,7 +102,7 @@ lines_of_serve {P} {O} versions has_room calls file one two a b c d e opens firs
       ends = line_for (Ended file) two ends;
       are = ap (λ l. l ++ ys) is ∙ ap (λ l. noted_line one ∷ l) behind.4;
     }) first
-    (written_then (AreOfRoom has_room) behind_room behind_first b c e
+    (written_then (AreOfRoom (is_whole found)) behind_room behind_first b c e
     (λ xs ys lacks behind. (xs, behind.0, lacks, behind.1, ap (λ l. xs ++ l) behind.2)) room
-    (written_then (HasTraces calls) last_line behind_room c d e (λ xs ys has is. (xs, has, ap (λ l. xs ++ l) is))
+    (written_then (λ lines. HasAllTraces found calls lines more) last_line behind_room c d e (λ xs ys has is. (xs, has, ap (λ l. xs ++ l) is))
     traces last))

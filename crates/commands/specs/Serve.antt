@@ -16,11 +16,10 @@ use Rattle.socket.specs.declared.deed.ListenOn.TheVariants.{Port, Input}
 use Rattle.control.specs.WallClock.{Shows}
 use Rattle.control.specs.Copying.{Making, GoesOnRead, IsOnlyRead}
 use Rattle.control.specs.Notices.{Ended, Reserved, WritesLines, opened, room_told}
-use Rattle.control.specs.Reserve as room
-use Rattle.control.specs.Reserve.{DiskDeed}
-use Rattle.control.specs.Traces.{HasTraces, IsLineFor}
-use Rattle.control.specs.Uses.{HasUses}
+use Rattle.control.specs.Reserve.{DiskDeed, Made as RoomMade, is_whole}
+use Rattle.control.specs.Traces.{HasAllTraces, IsLineFor}
 use Rattle.control.specs.Visits.{Call, EndsEach}
+use Rattle.control.specs.declared.reserve.Room.{Room}
 use Rattle.commands.specs.Printed.{HasFailed, PrintsFront}
 use Rattle.commands.specs.declared.refusal.CommandRefusal.{CommandRefusal}
 use Rattle.commands.specs.declared.refusal.CommandRefusal.TheVariants.{Io}
@@ -40,16 +39,16 @@ AreOfRoom true lines = lines ≡ []
 AreOfRoom false lines = (line : List ℕ) × (lines ≡ line ∷ []) × IsLineFor (Reserved (room_told false)) line
 
 -- The lines that a `serve` with operators writes: that the store of this file was opened, with so many versions, that
--- the reserve lacks room if it does, those that are written while these callers are served, in which each order has its
--- own, and that the store of this file is no longer served.
-pub record AreOfServe {P O : Type 0} (file : List ℕ) (versions : Result ℕ StoreFault) (has_room : Bool)
-    (calls : List (Call P O)) (lines : List (List ℕ)) : Type 0 where
+-- the reserve lacks room if not all of it was found, those that are written while these callers are served and this is
+-- done to the reserve, in which each order has its own, and that the store of this file is no longer served.
+pub record AreOfServe {P O : Type 0} (file : List ℕ) (versions : Result ℕ StoreFault) (found : Room)
+    (calls : List (Call P O)) (lines : List (List ℕ)) (deeds : List DiskDeed) : Type 0 where
   pub first : List ℕ
   pub opens : IsLineFor (opened file versions) first
   pub room : List (List ℕ)
-  pub tells_room : AreOfRoom has_room room
+  pub tells_room : AreOfRoom (is_whole found) room
   pub between : List (List ℕ)
-  pub traces : HasTraces calls between
+  pub traces : HasAllTraces found calls between deeds
   pub last : List ℕ
   pub ends : IsLineFor (Ended file) last
   pub are : lines ≡ first ∷ (room ++ (between ++ last ∷ []))
@@ -118,11 +117,11 @@ module _ {P O : Type 0} (heard : P → Account × Reads) (written : P → Option
 -- Callers were served as `EndsEach` says, and their orders used the reserve as they may. Before that, the versions of
 -- the store were counted, which only reads it, and failed only for a cause. The lines of all this were written, and
 -- nothing else, unless a call to write or to flush failed. The writer of errors is what it took, and the calls to it;
--- `file` is the name of the served file, and `has_room` says whether all of the reserve was there before.
+-- `file` is the name of the served file, and so much of the reserve was found before.
 pub record TellsEach {P O : Type 0} (heeded : O → Account × Reads) (told : O → Option (List ℕ) × Writes)
     (heard : P → Account × Reads) (written : P → Option (List ℕ) × Writes) (known : Known P O)
     {S : Type 0} (shown : S → Shown) (made : Made S) (counted : Counted S) (old new : S) (connections : ℕ)
-    (errors errors_new : Option (List ℕ) × Writes) (file since : List ℕ) (has_room : Bool)
+    (errors errors_new : Option (List ℕ) × Writes) (file since : List ℕ) (found : Room)
     (deeds deeds_new : List DiskDeed) (door left : Door (Caller P O)) : Type 0 where
   pub mid : S
   pub counts : IsOnlyRead (shown old) (shown mid)
@@ -130,15 +129,16 @@ pub record TellsEach {P O : Type 0} (heeded : O → Account × Reads) (told : O 
   pub cause : HasCause (shown old) (shown mid) versions
   pub number : IfOk versions (λ n. counted old mid n)
   pub each : EndsEach heeded told heard written shown made counted known door left mid new since connections
-  pub lines : WritesLines (AreOfServe file versions has_room each.reads.each.calls) errors errors_new
-  pub uses : (more : List DiskDeed) × (deeds_new ≡ deeds ++ more) × HasUses each.reads.each.calls more
+  pub more : List DiskDeed
+  pub are : deeds_new ≡ deeds ++ more
+  pub lines : WritesLines (λ lines. AreOfServe file versions found each.reads.each.calls lines more) errors errors_new
 
 module _ {P O : Type 0} (heeded : O → Account × Reads) (told : O → Option (List ℕ) × Writes)
     (heard : P → Account × Reads) (written : P → Option (List ℕ) × Writes) (known : Known P O)
     {S : Type 0} (shown : S → Shown) (made : Made S) (counted : Counted S) (old new : S)
     (entrance : ListenOn) (connections : ℕ) (printed printed_new : Option (List ℕ)) (writes writes_new : Writes)
     (errors errors_new : Option (List ℕ) × Writes) (file : List ℕ) where
-  module _ (since : List ℕ) (has_room : Bool) (deeds deeds_new : List DiskDeed) (door left : Door (Caller P O)) where
+  module _ (since : List ℕ) (found : Room) (deeds deeds_new : List DiskDeed) (door left : Door (Caller P O)) where
     -- Peers were let in, and callers were served: peers, and between them operators, until one of these ended it, or
     -- the connections were used up. The lines of that were written. The store went through at most as many requests as
     -- there are connections, with orders between them, and copies of the machine's world at the moment of each order,
@@ -148,7 +148,7 @@ module _ {P O : Type 0} (heeded : O → Account × Reads) (told : O → Option (
       pub begun : Door (Caller P O)
       pub opens : LetsIn door begun entrance printed printed_new
       pub each : TellsEach heeded told heard written known shown made counted old new connections errors errors_new
-          file since has_room deeds deeds_new begun left
+          file since found deeds deeds_new begun left
       pub goes : GoesOnRead shown made counted old new since connections
 
     -- so it was, or nothing was served, no line was written, and nothing was done to the reserve
@@ -178,9 +178,9 @@ module _ {P O : Type 0} (heeded : O → Account × Reads) (told : O → Option (
         pub shows : Shows times times_new (Some since)
         pub begun : Door (Caller P O)
         pub makes : Does door begun path deed.Made
-        pub has_room : Bool
+        pub found : Room
         pub ended : Door (Caller P O)
-        pub serves : ServesIfOpen since has_room (deeds ++ room.Made has_room ∷ []) deeds_new begun ended result
+        pub serves : ServesIfOpen since found (deeds ++ RoomMade found ∷ []) deeds_new begun ended result
         pub removed : Door (Caller P O)
         pub removes : Does ended removed path deed.Removed
         pub closes : Does removed left [] deed.Closed

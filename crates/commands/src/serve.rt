@@ -5,6 +5,7 @@
 ghost use Rattle.std.specs.Prelude.{◌≡◌, [], option_copied, OnOk};
 ghost use Rattle.control.specs.Copying.{GoesOnRead};
 ghost use Rattle.control.specs.Notices.{WritesLines, WritesNotices};
+ghost use Rattle.control.specs.Reserve.{is_whole};
 ghost use Rattle.engine.specs.Causes.{FailsWith};
 ghost use Rattle.socket.specs.Connections.{both};
 ghost use Rattle.commands.specs.Printed.{PrintsText};
@@ -13,7 +14,9 @@ ghost use Rattle.commands.specs.Serve.{Opens, ServesIfOpen, TellsEach, line_of, 
 
 use crate::printing::{print_both, print_one};
 use crate::refusal::CommandRefusal;
-use control::{Copies, Operator, Reserve, WallClock, ended, opened, reserved, serve_both, tell};
+use control::{
+    Copies, Operator, Reserve, Room, WallClock, ended, opened, reserved, serve_both, tell,
+};
 use engine::Io;
 use engine::write::write_bytes;
 use histories::{ClockFace, Tell};
@@ -161,7 +164,7 @@ fn serve_operators<
     let Ok(()) = entrances.make_socket(path) else {
         return Err(CommandRefusal::Io);
     };
-    let has_room = reserve.make_room();
+    let room = reserve.make_room();
     let told = serve_callers(
         alloc,
         clock,
@@ -169,7 +172,7 @@ fn serve_operators<
         shelves,
         copies,
         reserve,
-        has_room,
+        room,
         since,
         entrances,
         entrance,
@@ -202,7 +205,7 @@ fn serve_callers<
     shelves: &mut S,
     copies: &K,
     reserve: &mut V,
-    has_room: bool,
+    room: Room,
     since: TimeText,
     entrances: &mut N,
     entrance: ListenOn,
@@ -214,7 +217,7 @@ fn serve_callers<
         (both P.came P.reads) (both P.written P.writes) N.known S.shown K.made K.counted shelves.old shelves.new
         entrance connections (O.contents output.old) (O.contents output.new)
         (O.writes output.old) (O.writes output.new)
-        (both E.contents E.writes errors.old) (both E.contents E.writes errors.new) (K.name copies.now) since has_room
+        (both E.contents E.writes errors.old) (both E.contents E.writes errors.new) (K.name copies.now) since room
         (V.deeds reserve.old) (V.deeds reserve.new)
         (both N.waiting N.history entrances.old) (both N.waiting N.history entrances.new) result }
     ensures flushed { OnOk result ((O.writes output.new).unflushed ≡ []) }
@@ -230,7 +233,7 @@ fn serve_callers<
         shelves,
         copies,
         reserve,
-        has_room,
+        room,
         since,
         entrances,
         connections,
@@ -258,7 +261,7 @@ fn serve_told<
     shelves: &mut S,
     copies: &K,
     reserve: &mut V,
-    has_room: bool,
+    room: Room,
     since: TimeText,
     entrances: &mut N,
     connections: u32,
@@ -267,7 +270,7 @@ fn serve_told<
     ensures each { TellsEach (both Q.came Q.reads) (both Q.written Q.writes)
         (both P.came P.reads) (both P.written P.writes) N.known S.shown K.made K.counted shelves.old shelves.new
         connections (both E.contents E.writes errors.old) (both E.contents E.writes errors.new) (K.name copies.now)
-        since has_room
+        since room
         (V.deeds reserve.old) (V.deeds reserve.new)
         (both N.waiting N.history entrances.old) (both N.waiting N.history entrances.new) }
     ensures goes { GoesOnRead S.shown K.made K.counted shelves.old shelves.new since connections }
@@ -275,7 +278,7 @@ fn serve_told<
 {
     let versions = copies.versions(shelves);
     tell(opened(alloc, copies.served(), versions), errors);
-    tell_room(alloc, has_room, errors);
+    tell_room(alloc, room, errors);
     serve_both(
         alloc,
         clock,
@@ -283,6 +286,7 @@ fn serve_told<
         shelves,
         copies,
         reserve,
+        room,
         copied,
         since,
         connections,
@@ -292,13 +296,13 @@ fn serve_told<
 }
 
 /// Writes a notice if not all of the reserve, the room on the disk for orders, is there.
-fn tell_room<E: Tell>(alloc: Global, has_room: bool, errors: &mut E)
+fn tell_room<E: Tell>(alloc: Global, room: Room, errors: &mut E)
     ensures notes { WritesNotices (E.contents errors.old) (E.contents errors.new) }
     // Its line says so, and is flushed, unless a call to write or to flush failed.
-    ensures tells { WritesLines (AreOfRoom has_room)
+    ensures tells { WritesLines (AreOfRoom (is_whole room))
         (both E.contents E.writes errors.old) (both E.contents E.writes errors.new) }
 {
-    if has_room {
+    if room.is_whole() {
         return;
     }
     tell(reserved(alloc, false), errors);

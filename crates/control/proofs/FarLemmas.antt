@@ -10,12 +10,12 @@ use Rattle.world.specs.declared.registry.StoreFault.{StoreFault}
 use Rattle.engine.specs.declared.fault.Io.{Io}
 use Rattle.control.specs.Copying.{Making, IsBusy, IsOnlyRead}
 use Rattle.control.specs.Metrics.{TellsKept}
+use Rattle.control.specs.Finds.{WritesAndDoes}
 use Rattle.control.specs.Health.{IsPinged}
 use Rattle.control.specs.Pinging.{TellsHowFar, TellsPing}
 use Rattle.control.specs.Serving.{ObeysMeanwhile}
 use Rattle.control.specs.Reserve.{Lent}
-use Rattle.control.specs.Traces.{Log, WritesTrace}
-use Rattle.control.specs.Uses.{UsesOnce}
+use Rattle.control.specs.Traces.{Log, UsesAndTells}
 use Rattle.control.specs.Visits.{ObeysOne}
 use Rattle.socket.specs.declared.callers.Caller.{Caller}
 use Rattle.control.specs.declared.health.Metrics.{Metrics}
@@ -48,17 +48,17 @@ module _ {O : Type 0} (heeded : O → Account × Reads) (told : O → Option (Li
   pub obeys_meanwhile : {P : Type 0} (far : Option CopyProgress) (tally : Tally) (operator gone : O) (stops : Bool)
       (door end : Door (Caller P O)) (p q : Progress) (log log_new : Log) (room room_new : Lent) (s t : S)
       → (o : Obeyed tally operator gone stops s t) → IfOk o.audience.told (TellsHowFar far)
-      → WritesTrace o.audience.heard o.audience.told log.0 log_new.0 → log_new.1 ≡ log.1
-      → UsesOnce o.audience.heard room room_new → tally ≡ p.tally
+      → WritesAndDoes (UsesAndTells o.audience.heard o.audience.told) log.0 log_new.0 room room_new
+      → log_new.1 ≡ log.1 → tally ≡ p.tally
       → EndsOperator door end gone → q.tally ≡ p.tally → q.left ≡ p.left → q.taken ≡ p.taken + 1 → q.stops ≡ (p.stops || stops)
       → ObeysMeanwhile heeded told shown made counted operator far door end p q log log_new room room_new s t
-  obeys_meanwhile far tally operator gone stops door end p q log log_new room room_new s t o tells trace faults uses same
+  obeys_meanwhile far tally operator gone stops door end p q log log_new room room_new s t o tells traces faults same
       ended tally_q left taken ends =
       let now : (x : Obeyed p.tally operator gone stops s t) × IfOk x.audience.told (TellsHowFar far)
-      × WritesTrace x.audience.heard x.audience.told log.0 log_new.0 × UsesOnce x.audience.heard room room_new =
+      × WritesAndDoes (UsesAndTells x.audience.heard x.audience.told) log.0 log_new.0 room room_new =
       subst (λ u. (x : Obeyed u operator gone stops s t) × IfOk x.audience.told (TellsHowFar far)
-      × WritesTrace x.audience.heard x.audience.told log.0 log_new.0 × UsesOnce x.audience.heard room room_new) same
-      (o, tells, trace, uses) in
+      × WritesAndDoes (UsesAndTells x.audience.heard x.audience.told) log.0 log_new.0 room room_new)
+      same (o, tells, traces) in
       record {
         stops = stops;
         gone = gone;
@@ -69,7 +69,6 @@ module _ {O : Type 0} (heeded : O → Account × Reads) (told : O → Option (Li
         taken = taken;
         ends = ends;
         tells = now.1;
-        trace = now.2;
+        traces = now.2;
         faults = faults;
-        uses = now.3;
       }

@@ -26,6 +26,7 @@ pub mod ServeLemmas
 pub mod CallsLemmas
 pub mod OrderedLemmas
 pub mod UseLemmas
+pub mod FindLemmas
 pub mod ServingLemmas
 pub mod FarLemmas
 pub mod UnnotedLemmas

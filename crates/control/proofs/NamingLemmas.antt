@@ -30,7 +30,7 @@ module _ (old mid new : Shown) (deeds deeds_new : List DiskDeed) (f : List ℕ) 
       | inr (inl grew) ↦ inr (inl (omega (arith, few, grew)))
       | inr (inr full) ↦ inr (inr full)
     ];
-    renewed = room.renewed;
+    once = room.once;
     none = room.none;
     device = λ is. elim (room.device is) [
       | inl none ↦ inl none

@@ -6,18 +6,20 @@ use Rattle.std.specs.declared.time.Instant.{Instant}
 use Rattle.histories.specs.Calls.{Writes}
 use Rattle.world.specs.declared.registry.StoreFault.{StoreFault}
 use Rattle.control.specs.Faults.{Admits}
-use Rattle.control.specs.Noted.{AreOf, AreForPeer, AreOfRoom, AreUnheld, CountsIf, CountsUnmet, IsAbout, Noted}
-use Rattle.control.specs.Noted.{NotesFault, noted_line}
+use Rattle.control.specs.Finds.{WritesAndDoes}
+use Rattle.control.specs.Noted.{AreOf, AreOfRoom, AreUnheld, CountsIf, CountsUnmet, IsAbout, LooksUnlessWhole, Noted}
+use Rattle.control.specs.Noted.{NotesFault, TellsPeer, noted_line}
 use Rattle.control.specs.Notices.{AtMostOne, IsLineAbout, IsOfFault, IsOfRoom, Lost, Met, Occasion, Reserved}
 use Rattle.control.specs.Notices.{WritesLines, room_told}
-use Rattle.control.specs.Reserve.{is_whole}
+use Rattle.control.specs.Reserve.{DiskDeed, Lent, is_whole}
 use Rattle.control.specs.Traffic.{was_found, was_published}
 use Rattle.control.specs.declared.faults.RecentFaults.{RecentFaults}
 use Rattle.control.specs.declared.reserve.Room.{Room}
 use Rattle.control.specs.declared.store_call.StoreCall.{StoreCall}
 use Rattle.control.specs.declared.traffic.Traffic.{Traffic}
 use Rattle.control.specs.declared.traffic.Transfer.{Transfer}
-use Rattle.control.proofs.NoticeLemmas.{none_written, written_so, written_then}
+use Rattle.control.proofs.FindLemmas.{does_before}
+use Rattle.control.proofs.NoticeLemmas.{none_written, written_so}
 
 module _ (asked : StoreCall) (transfer : Transfer) (shelf : List ℕ) (before counts counts_new : Traffic)
     (old noted new : Option Noted) (same : counts ≡ before) where
@@ -101,18 +103,13 @@ pub some_of_fault : (noted : Noted) → IsLineAbout IsOfFault (noted_line noted)
 some_of_fault noted is = λ x same. subst OfFault same is
 
 -- those of the room on the disk
-room_at_most : (old new : Room) (lines : List (List ℕ)) → AreOfRoom old new lines → AtMostOne IsOfRoom lines
+pub room_at_most : (old new : Room) (lines : List (List ℕ)) → AreOfRoom old new lines → AtMostOne IsOfRoom lines
 room_at_most old new lines (inl (same, none)) = inl none
 room_at_most old new lines (inr (changed, told, about, is)) = inr (
   noted_line told,
   is,
   line_about IsOfRoom (Reserved (room_told (is_whole new))) told (is_whole new, refl) tt about,
 )
-
-pub room_at_most_written : (old new : Room) (a b : Option (List ℕ) × Writes) → WritesLines (AreOfRoom old new) a b
-    → WritesLines (AtMostOne IsOfRoom) a b
-room_at_most_written old new a b written =
-    written_so (AreOfRoom old new) (AtMostOne IsOfRoom) a b (room_at_most old new) written
 
 -- those of the fault that a store noted
 fault_at_most : (faults faults_new : RecentFaults) (noted : Option Noted) (lines : List (List ℕ))
@@ -123,19 +120,33 @@ fault_at_most faults faults_new (Some noted) lines of (now, true, admits, is) =
     inr (noted_line noted, is, of noted refl)
 fault_at_most faults faults_new (Some noted) lines of (now, false, admits, is) = inl is
 
+-- those of the room, where it was not looked for if all of it was there
+room_unless_whole : (old new : Room) (lines : List (List ℕ)) (deeds : List DiskDeed)
+    → LooksUnlessWhole old new lines deeds → AreOfRoom old new lines
+room_unless_whole old new lines deeds (inl (whole, same, none, idle)) = inl (same, none)
+room_unless_whole old new lines deeds (inr looks) = looks.1.0
+
+pub room_written_unless_whole : (e f : Option (List ℕ) × Writes) (a b : Lent) → WritesAndDoes LooksUnlessWhole e f a b
+    → WritesLines (AreOfRoom a.1 b.1) e f
+room_written_unless_whole e f a b (same, ds, is, wrote) =
+    written_so (λ lines. LooksUnlessWhole a.1 b.1 lines ds) (AreOfRoom a.1 b.1) e f
+    (λ lines looks. room_unless_whole a.1 b.1 lines ds looks) wrote
+
 -- those of a peer
-pub peer_written : (old new : Room) (faults faults_new : RecentFaults) (noted : Option Noted)
-    (a b c : Option (List ℕ) × Writes) → ForSome noted (λ n. IsLineAbout IsOfFault (noted_line n))
-    → WritesLines (AreOfRoom old new) a b → WritesLines (AreUnheld faults faults_new noted) b c
-    → WritesLines (AreForPeer faults faults_new) a c
-peer_written old new faults faults_new noted a b c of one two =
-    written_then (AreOfRoom old new) (AreUnheld faults faults_new noted) (AreForPeer faults faults_new) a b c
-    (λ room fault has are. record {
-      room = room;
-      fault = fault;
-      are = refl;
-      of_room = room_at_most old new room has;
-      of_fault = fault_at_most faults faults_new noted fault of are;
-      noted = noted;
-      unheld = are;
+pub peer_written : (faults faults_new : RecentFaults) (noted : Option Noted) (e f g : Option (List ℕ) × Writes)
+    (a b : Lent) → ForSome noted (λ n. IsLineAbout IsOfFault (noted_line n)) → WritesAndDoes LooksUnlessWhole e f a b
+    → WritesLines (AreUnheld faults faults_new noted) f g → WritesAndDoes (TellsPeer faults faults_new) e g a b
+peer_written faults faults_new noted e f g a b of one two =
+    does_before LooksUnlessWhole (AreUnheld faults faults_new noted) (TellsPeer faults faults_new) e f g a b
+    (λ room fault deeds looks are. record {
+      lines_are = record {
+        room = room;
+        fault = fault;
+        are = refl;
+        of_room = room_at_most a.1 b.1 room (room_unless_whole a.1 b.1 room deeds looks);
+        of_fault = fault_at_most faults faults_new noted fault of are;
+        noted = noted;
+        unheld = are;
+      };
+      looks = looks;
     }) one two

@@ -20,11 +20,12 @@ use Rattle.control.specs.Hearing.{Heard, Carried, Made, Listed, Pinged, Named, S
 use Rattle.control.specs.Hearing.{Obeys, WritesSome, bytes_heard, printed_heard, told_heard}
 use Rattle.control.specs.Line.{most_tries}
 use Rattle.control.specs.Naming.{NamesOne, NamesNone, ReadError}
-use Rattle.control.specs.Noted.{BeginsWith, Noted, NotesTold}
-use Rattle.control.specs.Notices.{WritesLines}
+use Rattle.control.specs.Finds.{WritesAndDoes}
+use Rattle.control.specs.Noted.{Noted, NotesAndLooks, NotesTold}
+use Rattle.control.specs.Reserve.{Lent}
 use Rattle.control.specs.ControlReply.{bytes_told}
 use Rattle.control.specs.Tasks.{Asked, messages, GoesOn}
-use Rattle.control.specs.Traces.{WritesTrace}
+use Rattle.control.specs.Traces.{TellsOrder}
 use Rattle.control.specs.Visits.{Call, OfPeer, OfOperator, Untaken, steps_if}
 use Rattle.control.specs.Visits.{steps_with, peers, ObeysOne}
 use Rattle.control.specs.Visits.{ReadsEach}
@@ -143,17 +144,17 @@ module _ {O : Type 0} (heeded : O → Account × Reads) (told : O → Option (Li
       (told after).0 result done)
       → (cause : IfErr result (IsCausedIn most_tries (heeded operator).1 (heeded after).1 (told operator).1
       (told after).1)) → (stopped : IsTrue stops ↔ (result ≡ Ok (spoken.Outcome Stopping)))
-      → (errors errors_new : Option (List ℕ) × Writes) → NotesTold done result noted
-      → WritesLines (BeginsWith noted) errors errors_new
-      → WritesTrace (obeyed_one operator after stops result done obeys cause stopped).audience.heard
-      (obeyed_one operator after stops result done obeys cause stopped).audience.told errors errors_new
+      → (e f : Option (List ℕ) × Writes) (a b : Lent) → NotesTold done result noted
+      → WritesAndDoes (NotesAndLooks noted) e f a b
+      → WritesAndDoes (TellsOrder (obeyed_one operator after stops result done obeys cause stopped).audience.heard
+      (obeyed_one operator after stops result done obeys cause stopped).audience.told) e f a b
   unfolding obeyed_one
-  obeyed_trace operator after stops (Ok outcome) done noted obeys cause stopped errors errors_new notes written =
-      trace_of (Some obeys.1.heard) (Ok outcome) done noted errors errors_new obeys.1.from.1 notes written
-  obeyed_trace operator after stops (Err io.Read) done noted obeys cause stopped errors errors_new notes written =
-      trace_of None (Err io.Read) done noted errors errors_new obeys.3 notes written
-  obeyed_trace operator after stops (Err io.Write) done noted obeys cause stopped errors errors_new notes written =
-      trace_of (Some obeys.2.heard) (Err io.Write) done noted errors errors_new obeys.2.from.1 notes written
+  obeyed_trace operator after stops (Ok outcome) done noted obeys cause stopped e f a b notes written =
+      trace_of (Some obeys.1.heard) (Ok outcome) done noted e f a b obeys.1.from.1 notes written
+  obeyed_trace operator after stops (Err io.Read) done noted obeys cause stopped e f a b notes written =
+      trace_of None (Err io.Read) done noted e f a b obeys.3 notes written
+  obeyed_trace operator after stops (Err io.Write) done noted obeys cause stopped e f a b notes written =
+      trace_of (Some obeys.2.heard) (Err io.Write) done noted e f a b obeys.2.from.1 notes written
 
 -- ---- those who come
 

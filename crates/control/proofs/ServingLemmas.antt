@@ -17,18 +17,18 @@ use Rattle.socket.specs.History.{Does, Door, EndsOperator, Known, Takes, TakesNo
 use Rattle.socket.specs.declared.deed.Deed.TheVariants as deed
 use Rattle.socket.specs.declared.deed.Search.TheVariants.{Waiting, AtOnce}
 use Rattle.control.specs.Copying.{Making, tasks_in, has_read, AllRead, GoesThroughSteps, IsBusy, IsOnlyRead}
+use Rattle.control.specs.Finds.{WritesAndDoes}
 use Rattle.control.specs.Health.{IsPinged, tally_of}
 use Rattle.control.specs.Hearing as hearing
-use Rattle.control.specs.Noted.{AreForPeer}
-use Rattle.control.specs.Notices.{WritesLines}
+use Rattle.control.specs.Noted.{TellsPeer}
 use Rattle.control.specs.Progress.{IsOver}
-use Rattle.control.specs.Reserve.{DoesMore, Lent, Renews, once_begun}
+use Rattle.control.specs.Reserve.{DoesMore, Lent, once_begun}
 use Rattle.control.specs.Serving.{AllTold, EndsBy, Instant, ObeysMeanwhile}
 use Rattle.control.specs.Serving.{Serves, ServesMeanwhile, ServesPeer, TakesTurn}
 use Rattle.control.specs.Serving.{TakesTurns, TakesTurnsBy, connected, tally_after}
 use Rattle.control.specs.Tasks.{GoesThroughTasks}
-use Rattle.control.specs.Traces.{HasLines, HasTraces, Log, TracesEach, WritesTrace, WritesTraces}
-use Rattle.control.specs.Uses.{HasUses, IsUseIf, UsesEach, UsesOnce}
+use Rattle.control.specs.Traces.{HasAllTraces, HasTraces, Log, TellsOrder, TracesEach, UsesAndTells, WritesTraces}
+use Rattle.control.specs.Uses.{IsUseIf}
 use Rattle.control.specs.Visits.{Call, OfPeer, OfOperator, Untaken, Audience, CameIf, EndsEach, Happened}
 use Rattle.control.specs.Visits.{IsCallThere, IsClosed, IsLong, IsToldThere, ObeysOne, ReadsEach, TellsTally}
 use Rattle.control.specs.Visits.{search_with}
@@ -48,11 +48,9 @@ use Rattle.control.proofs.OrderedLemmas.{through_told}
 use Rattle.control.proofs.ServeLemmas.{none_come, steps_first, then_come}
 use Rattle.control.proofs.StepLemmas.{no_reads, read_heard, read_then}
 use Rattle.control.proofs.TallyLemmas.{tells_tally}
-use Rattle.control.proofs.TraceLemmas.{traces_around, traces_none, traces_operator, traces_peer, traces_then}
-use Rattle.control.proofs.TraceLemmas.{traces_untaken}
+use Rattle.control.proofs.TraceLemmas.{order_traced, traces_around, traces_none, traces_operator, traces_peer}
+use Rattle.control.proofs.TraceLemmas.{traces_then, traces_untaken}
 use Rattle.control.proofs.TaskLemmas.{tasks_none, tasks_read}
-use Rattle.control.proofs.UseLemmas.{renewed_none, uses_around, uses_behind, uses_none, uses_once, uses_operator}
-use Rattle.control.proofs.UseLemmas.{uses_then}
 use Rattle.control.proofs.CallsLemmas.{all_tallied, answered_append, callers_append, connections_append, ends_append}
 use Rattle.control.proofs.CallsLemmas.{goes_on, is_end, may_end, none_ends, none_through, peers_few, read_or}
 use Rattle.control.proofs.CallsLemmas.{steps_append, tally_append, through_append, through_read, told_append}
@@ -87,8 +85,7 @@ module _ {P O : Type 0} (heeded : O → Account × Reads) (told : O → Option (
       left = omega arith;
       taken = omega arith;
       ends = none_ends P O p.stops;
-      traces = traces_none P O e;
-      uses = uses_none P O l;
+      traces = traces_none P O e l;
     }
 
     -- nobody, and the store was read
@@ -108,8 +105,7 @@ module _ {P O : Type 0} (heeded : O → Account × Reads) (told : O → Option (
       left = omega arith;
       taken = omega arith;
       ends = none_ends P O p.stops;
-      traces = traces_none P O e;
-      uses = uses_none P O l;
+      traces = traces_none P O e l;
     }
 
     -- callers, and then others
@@ -145,8 +141,7 @@ module _ {P O : Type 0} (heeded : O → Account × Reads) (told : O → Option (
           left = omega (arith, connections_append xs ys, one.left, two.left);
           taken = omega (arith, length-append xs ys, one.taken, two.taken);
           ends = ends_append p.stops q.stops r.stops xs ys one.ends two.ends;
-          traces = traces_then xs ys e f g one.traces two.traces;
-          uses = uses_then xs ys l m n one.uses two.uses;
+          traces = traces_then xs ys e f g l m n one.traces two.traces;
         }
 
     module _ (read : Bool) (door end : Door (Caller P O)) (p q : Progress) (e f : Log)
@@ -159,8 +154,8 @@ module _ {P O : Type 0} (heeded : O → Account × Reads) (told : O → Option (
           → ((shown t).is_honest → (w : World) → (shown s).stands w → AllRead shown made counted w (steps_of call))
           → q.tally ≡ tally_after p.tally (answered_with (call ∷ [])) → AllTold p.tally (call ∷ [])
           → p.left ≡ q.left + connections_of (call ∷ []) → q.taken ≡ p.taken + 1 → EndsBy p.stops q.stops (call ∷ [])
-          → WritesTraces (call ∷ []) e f → DoesMore (HasUses (call ∷ [])) l m → From read door end p q e f l m s t
-      serves_one call comes happened fresh closed there through reads tally tallies left taken ends traces uses = record {
+          → WritesTraces (call ∷ []) e f l m → From read door end p q e f l m s t
+      serves_one call comes happened fresh closed there through reads tally tallies left taken ends traces = record {
         calls = call ∷ [];
         came = comes;
         happened = happened;
@@ -179,7 +174,6 @@ module _ {P O : Type 0} (heeded : O → Account × Reads) (told : O → Option (
         taken = omega (arith, taken);
         ends = ends;
         traces = traces;
-        uses = uses;
       }
 
       one_new : (caller : Caller P O) → known.is_new caller → All known.is_new (caller ∷ [])
@@ -188,10 +182,10 @@ module _ {P O : Type 0} (heeded : O → Account × Reads) (told : O → Option (
       -- a peer
       pub serves_peer : (mid : Door (Caller P O)) (peer : P) → Takes (search_with (connected read)) door mid (Peer peer)
           → known.is_new (Peer peer) → p.stops ≡ false
-          → ServesPeer heard written known peer mid end p q (shown s) (shown t) → WritesLines (AreForPeer e.1 f.1) e.0 f.0
-          → Renews l m → From read door end p q e f l m s t
+          → ServesPeer heard written known peer mid end p q (shown s) (shown t)
+          → WritesAndDoes (TellsPeer e.1 f.1) e.0 f.0 l m → From read door end p q e f l m s t
       unfolding serves_one
-      serves_peer mid peer takes fresh going next written_lines renews =
+      serves_peer mid peer takes fresh going next tells =
           let first = next.answers.answers.first in
           let visit : Visit P = record { before = peer; after = next.gone; gone = next.ended.0; first = first } in
           serves_one (OfPeer visit next.answered)
@@ -202,7 +196,7 @@ module _ {P O : Type 0} (heeded : O → Account × Reads) (told : O → Option (
           (λ h w stands. no_reads shown made counted w (exchanges_of first))
           next.tally tt next.left next.taken
           (goes_on p.stops q.stops going next.stops (OfPeer visit next.answered) (λ never. never))
-          (traces_peer O visit next.answered e f written_lines) renews
+          (traces_peer O visit next.answered e f l m tells)
 
       -- a connection that could not be taken
       pub serves_untaken : TakesNone (search_with (connected read)) door end → p.stops ≡ false → q.tally ≡ p.tally → p.left ≡ q.left + 1
@@ -214,7 +208,7 @@ module _ {P O : Type 0} (heeded : O → Account × Reads) (told : O → Option (
           (subst (λ x. GoesThroughSteps (shown s) (shown x) []) same (tasks_none (shown s)))
           (λ h w stands. tt) tally tt left taken
           (goes_on p.stops q.stops going stops Untaken (λ never. never))
-          (traces_untaken P O e f kept) (subst (Renews l) still (renewed_none l))
+          (traces_untaken P O e f l m kept still)
 
       -- an operator, who ordered no copy
       pub serves_operator : (mid : Door (Caller P O)) (idle : Option hearing.Heard → Type 0)
@@ -227,11 +221,11 @@ module _ {P O : Type 0} (heeded : O → Account × Reads) (told : O → Option (
           (shown s) (shown t))
           → GoesThroughSteps (shown s) (shown t) (steps_if next.audience.heard) → ¬ IsLong next.audience.heard
           → EndsOperator mid end gone → q.tally ≡ p.tally → q.left ≡ p.left → q.taken ≡ p.taken + 1 → q.stops ≡ (p.stops || stops)
-          → WritesTrace next.audience.heard next.audience.told e.0 f.0 → f.1 ≡ e.1
-          → UsesOnce next.audience.heard l m → From read door end p q e f l m s t
+          → WritesAndDoes (UsesAndTells next.audience.heard next.audience.told) e.0 f.0 l m → f.1 ≡ e.1
+          → From read door end p q e f l m s t
       unfolding serves_one
       serves_operator mid idle meanwhile tally_now operator gone stops takes fresh going now next through short ends tally
-          left taken is trace faults uses =
+          left taken is traces faults =
           let x = next.audience in
           let takes_x = subst (λ o. Takes (search_with (connected read)) door mid (Operator o)) (sym next.begins) takes in
           let ends_x = subst (λ o. EndsOperator mid end o) (sym next.leaves) ends in
@@ -250,7 +244,7 @@ module _ {P O : Type 0} (heeded : O → Account × Reads) (told : O → Option (
           (omega (arith, left)) taken
           (may_end p.stops stops q.stops (OfOperator x) going is next.stopped.0
           (λ on stop. false≢true (sym on ∙ next.stopped.1 stop)))
-          (traces_operator P x e f trace faults) (uses_operator P x l m uses)
+          (traces_operator P x e f l m traces faults)
 
     no_stop_told : (before after : O) (making : Making) (said : Result ControlReply Io)
         → IsToldThere heeded told before after (Some (hearing.Made making)) said
@@ -268,14 +262,13 @@ module _ {P O : Type 0} (heeded : O → Account × Reads) (told : O → Option (
         → (said ≡ Ok (spoken.Outcome Stopping) → ⊥)
         → made s t making → From true watching last q r e f (once_begun making k) l s m
         → IsOnlyRead (shown m) (shown t) → ¬ IsBusy making
-        → WritesTrace (Some (hearing.Made making)) said f.0 g.0 → g.1 ≡ f.1 → Renews l n
+        → WritesAndDoes (TellsOrder (Some (hearing.Made making)) said) f.0 g.0 l n → g.1 ≡ f.1
         → EndsOperator last end after
         → q.tally ≡ p.tally → q.left ≡ p.left → q.taken ≡ p.taken + 1 → q.stops ≡ p.stops
         → o.tally ≡ r.tally → o.left ≡ r.left → o.taken ≡ r.taken → o.stops ≡ r.stops
         → From false door end p o e g k n s t
     serves_made door mid watching last end p q r o e f g k l n s m t before after making said takes fresh going watched
-        there never came next read begun trace faults renews closes tally left_is taken stops tally_o left_o taken_o
-        stops_o =
+        there never came next read begun tells faults closes tally left_is taken stops tally_o left_o taken_o stops_o =
         let x : Audience O =
         record { before = before; after = after; heard = Some (hearing.Made making); told = said } in
         let call : Call P O = OfOperator x in
@@ -301,8 +294,7 @@ module _ {P O : Type 0} (heeded : O → Account × Reads) (told : O → Option (
           ends = subst (λ b. EndsBy p.stops b (call ∷ ys)) (sym stops_o)
               (ends_append p.stops q.stops r.stops (call ∷ []) ys
               (goes_on p.stops q.stops going stops call never) next.ends);
-          traces = traces_around x ys e f g begun next.traces trace faults;
-          uses = uses_around x making ys k l n refl begun next.uses renews;
+          traces = traces_around x making ys e f g k l n refl begun next.traces tells faults;
         }
 
     -- ---- from the beginning to the end
@@ -339,23 +331,27 @@ module _ {P O : Type 0} (heeded : O → Account × Reads) (told : O → Option (
             (omega (arith, all.taken, taken)) over;
       }
 
-      -- their lines were written, from the first fault on
+      -- their lines were written, from the first fault on, and each order used the reserve as it may
       pub traces_each : IsOver q.stops q.left q.taken → e.1.told.items ≡ []
-          → TracesEach heeded told heard written shown made counted known door end s t since connections e.0 f.0
+          → TracesEach heeded told heard written shown made counted known door end s t since connections e.0 f.0 l.1
+          l.0 m.0
       unfolding ends_each serves_each
-      traces_each over none = record {
-        ends = ends_each over;
-        traces = written_so (HasLines e.1 f.1 all.calls) (HasTraces all.calls) e.0 f.0
-            (λ lines has. (e.1, f.1, none, has)) all.traces;
-      }
-
-      -- each order used the reserve as it may, after room was taken again
-      pub uses_each : (k : Lent) → Renews k l → IsOver q.stops q.left q.taken → e.1.told.items ≡ []
-          → UsesEach heeded told heard written shown made counted known door end s t since connections e.0 f.0 k.0 m.0
-      unfolding traces_each ends_each serves_each
-      uses_each k renews over none =
-          let uses = uses_behind all.calls k l m renews all.uses in
-          record { traces = traces_each over none; more = uses.1; are = uses.2; uses = uses.3 }
+      traces_each over none =
+          let more = all.traces.1 in
+          record {
+            ends = ends_each over;
+            more = more;
+            are = all.traces.2;
+            traces = written_so (λ lines. HasTraces all.calls e.1 f.1 l.1 m.1 lines more)
+                (λ lines. HasAllTraces l.1 all.calls lines more) e.0 f.0
+                (λ lines has. record {
+                  faults = e.1;
+                  faults_new = f.1;
+                  found_new = m.1;
+                  none = none;
+                  traces = has;
+                }) all.traces.3;
+          }
 
     -- ---- while a copy is made
 
@@ -408,8 +404,7 @@ module _ {P O : Type 0} (heeded : O → Account × Reads) (told : O → Option (
         (ordered_if _ _ (shown s) (shown t) next.obeys.audience.heard next.obeys.through))
         (short_told (λ _. Unit {0}) (shown s) (shown t) next.obeys.audience.heard
         (ordered_if _ _ (shown s) (shown t) next.obeys.audience.heard next.obeys.through))
-        next.ended next.tally next.left next.taken next.ends next.trace next.faults
-        next.uses
+        next.ended next.tally next.left next.taken next.ends next.traces next.faults
 
     module _ (door mid last end : Door (Caller P O)) (p a b q : Progress) (e f g : Log)
         (k l n : Lent) (s t : S)
@@ -424,8 +419,9 @@ module _ {P O : Type 0} (heeded : O → Account × Reads) (told : O → Option (
         (fresh : known.is_new (Operator operator)) (going : p.stops ≡ false)
         (next : ObeysOne heeded told (made s t)
         (IsPinged a.tally (shown s).failures (shown t).failures (counted s t)) idle meanwhile operator gone stops
-        (shown s) (shown t)) (trace : WritesTrace next.audience.heard next.audience.told f.0 g.0)
-        (faults : g.1 ≡ f.1) (renews : Renews l n)
+        (shown s) (shown t))
+        (tells : WritesAndDoes (TellsOrder next.audience.heard next.audience.told) f.0 g.0 l n)
+        (faults : g.1 ≡ f.1)
         (ends : EndsOperator last end gone)
         (tally : a.tally ≡ p.tally) (left : a.left ≡ p.left) (taken : a.taken ≡ p.taken + 1) (same : a.stops ≡ p.stops)
         (tally_q : q.tally ≡ b.tally) (left_q : q.left ≡ b.left) (taken_q : q.taken ≡ b.taken)
@@ -440,8 +436,9 @@ module _ {P O : Type 0} (heeded : O → Account × Reads) (told : O → Option (
           (tally_q ∙ ap (λ x. x.tally) both.1 ∙ tally) (left_q ∙ ap (λ x. x.left) both.1 ∙ left)
           (taken_q ∙ ap (λ x. x.taken) both.1 ∙ taken)
           (stops_q ∙ ap (λ x. x.stops || stops) both.1 ∙ ap (λ x. x || stops) same)
-          (subst (λ x. WritesTrace next.audience.heard next.audience.told x.0 g.0) both.2 trace)
-          (subst (λ x. g.1 ≡ x.1) both.2 faults) (uses_once next.audience.heard k l n both.3 renews)
+          (subst (λ x. WritesAndDoes (UsesAndTells next.audience.heard next.audience.told) x.0 g.0 k n) both.2
+          (order_traced next.audience.heard next.audience.told f.0 g.0 k l n both.3 tells))
+          (subst (λ x. g.1 ≡ x.1) both.2 faults)
 
       made_served : (making : Making)
           → next.audience.heard ≡ Some (hearing.Made making) → meanwhile making → From false door end p q e g k n s t
@@ -457,7 +454,7 @@ module _ {P O : Type 0} (heeded : O → Account × Reads) (told : O → Option (
           (subst (λ o. known.is_new (Operator o)) (sym next.begins) fresh) going went.2 there never
           (subst (λ h. CameIf (made s t)
           (IsPinged a.tally (shown s).failures (shown t).failures (counted s t)) h) is next.came)
-          went.3 went.4 went.5 (subst (λ h. WritesTrace h x.told f.0 g.0) is trace) faults renews
+          went.3 went.4 went.5 (subst (λ h. WritesAndDoes (TellsOrder h x.told) f.0 g.0 l n) is tells) faults
           (subst (λ o. EndsOperator last end o) (sym next.leaves) ends) tally left taken same tally_q left_q taken_q
           (stops_q ∙ or_not b.stops stops (λ on. never (next.stopped.0 on)))
 

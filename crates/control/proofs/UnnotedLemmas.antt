@@ -119,7 +119,6 @@ module _ {S T : Type 0} (shown : S → Shown) (made : S → S → Making → Typ
       taken = next.taken;
       ends = next.ends;
       traces = next.traces;
-      uses = next.uses;
     }
 
 -- what is said at first of each world that a store stands for

@@ -13,14 +13,17 @@ use Rattle.world.specs.declared.registry.StoreFault.{StoreFault}
 use Rattle.world.specs.declared.registry.StoreFault.TheVariants.{Device}
 use Rattle.control.specs.Copying.{Making, IsBusy, OfKey, ToPath}
 use Rattle.control.specs.Hearing.{Heard, Carried, Made, Listed, Pinged, Named, Stop, NoOrder, NoMemory, UsesRoomIf}
+use Rattle.control.specs.Noted.{LooksUnlessWhole}
 use Rattle.control.specs.Naming.{NamesOne, NamesNone, ReadError}
 use Rattle.control.specs.Reserve.{BeganCopy, DiskDeed, DoesMore, FindsNone, GaveUp, GivesUp, IsRenewal, IsUse, Lent}
-use Rattle.control.specs.Reserve.{Renewed, Renews, UsesRoom, begun_for, once_begun}
-use Rattle.control.specs.Uses.{HasUse, HasUses, IsUseIf, UsesOnce}
+use Rattle.control.specs.Reserve.{Renewed, UsesRoom, begun_for, once_begun}
+use Rattle.control.specs.Reserve.{Made as RoomMade}
+use Rattle.control.specs.Uses.{BeginsRenewed, HasUses, IsUseIf}
 use Rattle.control.specs.Visits.{Audience, Call, ObeysOne, OfOperator, OfPeer, Untaken}
 use Rattle.control.specs.declared.health.Health.{Health}
 use Rattle.control.specs.declared.copies.CatalogRefusal.TheVariants as unprinted
 use Rattle.control.specs.declared.copies.CopyRefusal.TheVariants as refusal
+use Rattle.control.specs.declared.reserve.Room.{Room}
 use Rattle.control.proofs.OrderedLemmas.{Ordered, Other, ToMake, ordered_if}
 
 -- ---- one order
@@ -37,20 +40,20 @@ met_none : (old new : Shown) (deeds : List DiskDeed) (result : Result RegistryRe
     → UsesRoom old new deeds deeds result → result ≡ Err Device → ⊥
 met_none old new deeds result uses is = elim (uses.device (device_of result is)) [
   | inl none ↦ no_longer deeds [] (GaveUp false) none
-  | inr given ↦ no_longer deeds (Renewed ∷ []) (GaveUp true) given.0
+  | inr given ↦ no_longer deeds [] (GaveUp true) given.0
 ]
 
 use_of_room : (old new : Shown) (deeds deeds_new : List DiskDeed) (result : Result RegistryReply StoreFault)
     → UsesRoom old new deeds deeds_new result
     → (own : List DiskDeed) × (deeds_new ≡ deeds ++ own) × IsUse result own
-use_of_room old new deeds deeds_new result uses = elim uses.renewed [
+use_of_room old new deeds deeds_new result uses = elim uses.once [
   | inl same ↦ (
     [],
     same ∙ sym (append-nil deeds),
     inl (refl, met_none old new deeds result (subst (λ d. UsesRoom old new deeds d result) same uses)),
   )
   | inr (inl none) ↦ (GaveUp false ∷ [], none, inr (inl (refl, uses.none none)))
-  | inr (inr given) ↦ (GaveUp true ∷ Renewed ∷ [], given, inr (inr refl))
+  | inr (inr given) ↦ (GaveUp true ∷ [], given, inr (inr refl))
 ]
 
 unused : (deeds deeds_new : List DiskDeed) → deeds_new ≡ deeds
@@ -73,48 +76,19 @@ use_of old new deeds deeds_new (Some NoOrder) uses = unused deeds deeds_new uses
 use_of old new deeds deeds_new (Some NoMemory) uses = unused deeds deeds_new uses
 
 -- an order did this to the same reserve
-pub used_so : (old new : Shown) (a b : Lent) (heard : Option Heard) → b.1 ≡ a.1 → UsesRoomIf old new a.0 b.0 heard
-    → DoesMore (IsUseIf heard) a b
-used_so old new a b heard same uses =
-    let used = use_of old new a.0 b.0 heard uses in (same, used.0, used.1, used.2)
+pub used_so : (old new : Shown) (a b : Lent) (heard : Option Heard) → b.2 ≡ a.2 → b.1 ≡ a.1
+    → UsesRoomIf old new a.0 b.0 heard → DoesMore (IsUseIf heard) a b
+used_so old new a b heard same found uses =
+    let used = use_of old new a.0 b.0 heard uses in (same, found, used.0, used.1, used.2)
 
 -- so it is under another name of the loan
 pub used_behind : (does : List DiskDeed → Type 0) (name : ℕ) (a b : Lent) → DoesMore does a b
-    → DoesMore does (a.0, name) (b.0, name)
-used_behind does name a b used = (refl, used.1, used.2, used.3)
+    → DoesMore does (a.0, a.1, name) (b.0, b.1, name)
+used_behind does name a b used = (refl, used.1, used.2, used.3, used.4)
 
 -- nothing was done to it
-pub used_none : (does : List DiskDeed → Type 0) (a : Lent) → does [] → DoesMore does a a
-used_none does a none = (refl, [], sym (append-nil a.0), none)
-
--- this, and then that
-pub used_then : (one two both : List DiskDeed → Type 0) (a b c : Lent)
-    → ((xs ys : List DiskDeed) → one xs → two ys → both (xs ++ ys))
-    → DoesMore one a b → DoesMore two b c → DoesMore both a c
-used_then one two both a b c so (same, xs, is, does) (same_then, ys, is_then, does_then) = (
-  same_then ∙ same,
-  xs ++ ys,
-  is_then ∙ ap (λ l. l ++ ys) is ∙ append_assoc a.0 xs ys,
-  so xs ys does does_then,
-)
-
--- room was taken again
-pub renewed_once : (a b : Lent) → b.1 ≡ a.1 → b.0 ≡ a.0 ++ Renewed ∷ [] → Renews a b
-renewed_once a b same is = (same, Renewed ∷ [], is, All-cons IsRenewal Renewed [] tt (All-nil IsRenewal))
-
--- it was not taken again
-pub renewed_none : (a : Lent) → Renews a a
-renewed_none a = used_none (All IsRenewal) a (All-nil IsRenewal)
-
--- room was taken again, and then once more
-pub renewed_then : (a b c : Lent) → Renews a b → Renews b c → Renews a c
-renewed_then a b c one two =
-    used_then (All IsRenewal) (All IsRenewal) (All IsRenewal) a b c (All-append IsRenewal) one two
-
--- an order, and then room was taken again
-pub uses_once : (heard : Option Heard) (a b c : Lent) → DoesMore (IsUseIf heard) a b → Renews b c → UsesOnce heard a c
-uses_once heard a b c one two =
-    used_then (IsUseIf heard) (All IsRenewal) (HasUse heard) a b c (λ own rest is are. (own, rest, refl, is, are)) one two
+used_none : (does : List DiskDeed → Type 0) (a : Lent) → does [] → DoesMore does a a
+used_none does a none = (refl, refl, [], sym (append-nil a.0), none)
 
 -- where another one is being made, none is begun
 none_begun : (making : Making) → IsBusy making → [] ≡ begun_for making
@@ -122,13 +96,13 @@ none_begun (ToPath path told) busy = subst (λ r. [] ≡ begun_for (ToPath path 
 none_begun (OfKey key printed told) busy = refl
 
 -- of a copy that is begun, that is noted
-began_for : (making : Making) → ¬ IsBusy making → (a : Lent) → DoesMore (λ own. own ≡ begun_for making) a (once_begun making a)
-began_for (ToPath path (Ok done)) free a = (refl, BeganCopy path ∷ [], refl, refl)
-began_for (ToPath path (Err refusal.NotEmpty)) free a = (refl, BeganCopy path ∷ [], refl, refl)
-began_for (ToPath path (Err refusal.Device)) free a = (refl, BeganCopy path ∷ [], refl, refl)
-began_for (ToPath path (Err refusal.Memory)) free a = (refl, BeganCopy path ∷ [], refl, refl)
+pub began_for : (making : Making) → ¬ IsBusy making → (a : Lent) → DoesMore (λ own. own ≡ begun_for making) a (once_begun making a)
+began_for (ToPath path (Ok done)) free a = (refl, refl, BeganCopy path ∷ [], refl, refl)
+began_for (ToPath path (Err refusal.NotEmpty)) free a = (refl, refl, BeganCopy path ∷ [], refl, refl)
+began_for (ToPath path (Err refusal.Device)) free a = (refl, refl, BeganCopy path ∷ [], refl, refl)
+began_for (ToPath path (Err refusal.Memory)) free a = (refl, refl, BeganCopy path ∷ [], refl, refl)
 began_for (ToPath path (Err refusal.Busy)) free a = absurd (free refl)
-began_for (ToPath path (Err refusal.Ended)) free a = (refl, BeganCopy path ∷ [], refl, refl)
+began_for (ToPath path (Err refusal.Ended)) free a = (refl, refl, BeganCopy path ∷ [], refl, refl)
 began_for (OfKey key printed told) free a = used_none (λ own. own ≡ []) a refl
 
 -- an order that has something made while another is made does nothing to it
@@ -160,27 +134,36 @@ used_one heeded told made pinged idle meanwhile old new operator gone stops a b 
 
 -- ---- one after another
 
+begins_more : (deeds others : List DiskDeed) → BeginsRenewed deeds → BeginsRenewed (deeds ++ others)
+begins_more [] others begins = absurd begins
+begins_more (Renewed found ∷ deeds) others begins = begins
+begins_more (RoomMade found ∷ deeds) others begins = begins
+begins_more (GaveUp some ∷ deeds) others begins = begins
+begins_more (BeganCopy path ∷ deeds) others begins = begins
+
 module _ {P O : Type 0} where
   uses_front : (calls : List (Call P O)) (others deeds : List DiskDeed) → All IsRenewal others → HasUses calls deeds
       → HasUses calls (others ++ deeds)
   uses_front [] others deeds are has = All-append IsRenewal others deeds are has
   uses_front (OfPeer visit answered ∷ calls) others deeds are has = uses_front calls others deeds are has
-  uses_front (OfOperator x ∷ calls) others deeds are (front, own, rest, is, renewals, one, more) = (
+  uses_front (OfOperator x ∷ calls) others deeds are (front, own, rest, is, renewals, one, again, more) = (
     others ++ front,
     own,
     rest,
     ap (λ l. others ++ l) is ∙ sym (append_assoc others front (own ++ rest)),
     All-append IsRenewal others front are renewals,
     one,
+    again,
     more,
   )
   uses_front (Untaken ∷ calls) others deeds are has = uses_front calls others deeds are has
 
-  uses_both : (xs ys : List (Call P O)) (deeds others : List DiskDeed) → HasUses xs deeds → HasUses ys others
+  -- callers, and then others
+  pub uses_then : (xs ys : List (Call P O)) (deeds others : List DiskDeed) → HasUses xs deeds → HasUses ys others
       → HasUses (xs ++ ys) (deeds ++ others)
-  uses_both [] ys deeds others one two = uses_front ys deeds others one two
-  uses_both (OfPeer visit answered ∷ xs) ys deeds others one two = uses_both xs ys deeds others one two
-  uses_both (OfOperator x ∷ xs) ys deeds others (front, own, rest, is, renewals, one, more) two = (
+  uses_then [] ys deeds others one two = uses_front ys deeds others one two
+  uses_then (OfPeer visit answered ∷ xs) ys deeds others one two = uses_then xs ys deeds others one two
+  uses_then (OfOperator x ∷ xs) ys deeds others (front, own, rest, is, renewals, one, again, more) two = (
     front,
     own,
     rest ++ others,
@@ -188,48 +171,49 @@ module _ {P O : Type 0} where
         ∙ ap (λ l. front ++ l) (append_assoc own rest others),
     renewals,
     one,
-    uses_both xs ys rest others more two,
+    λ given. begins_more rest others (again given),
+    uses_then xs ys rest others more two,
   )
-  uses_both (Untaken ∷ xs) ys deeds others one two = uses_both xs ys deeds others one two
+  uses_then (Untaken ∷ xs) ys deeds others one two = uses_then xs ys deeds others one two
 
-  -- callers, and then others
-  pub uses_then : (xs ys : List (Call P O)) (a b c : Lent) → DoesMore (HasUses xs) a b → DoesMore (HasUses ys) b c
-      → DoesMore (HasUses (xs ++ ys)) a c
-  uses_then xs ys a b c one two =
-      used_then (HasUses xs) (HasUses ys) (HasUses (xs ++ ys)) a b c (uses_both xs ys) one two
+-- the reserve was looked for once
+pub renewed : (found : Room) (deeds : List DiskDeed) → deeds ≡ Renewed found ∷ [] → All IsRenewal deeds
+renewed found deeds is =
+    subst (All IsRenewal) (sym is) (All-cons IsRenewal (Renewed found) [] tt (All-nil IsRenewal))
 
-  -- callers, after room was taken again
-  pub uses_behind : (calls : List (Call P O)) (a b c : Lent) → Renews a b → DoesMore (HasUses calls) b c
-      → DoesMore (HasUses calls) a c
-  uses_behind calls a b c one two =
-      used_then (All IsRenewal) (HasUses calls) (HasUses calls) a b c (uses_front calls) one two
+-- nothing else was done to it, whether or not it was looked for
+pub looks_renew : (old new : Room) (lines : List (List ℕ)) (deeds : List DiskDeed)
+    → LooksUnlessWhole old new lines deeds → All IsRenewal deeds
+looks_renew old new lines deeds (inl (whole, same, none, idle)) =
+    subst (All IsRenewal) (sym idle) (All-nil IsRenewal)
+looks_renew old new lines deeds (inr looks) = renewed new deeds looks.1.1
 
-  -- an operator who had something made, with those who were served meanwhile
-  pub uses_around : (x : Audience O) (making : Making) (calls : List (Call P O)) (a b c : Lent)
-      → x.heard ≡ Some (Made making) → ¬ IsBusy making → DoesMore (HasUses calls) (once_begun making a) b → Renews b c
-      → DoesMore (HasUses (OfOperator x ∷ calls)) a c
-  uses_around x making calls a b c is free among renewed =
-      let behind = used_then (HasUses calls) (All IsRenewal) (HasUses calls) (once_begun making a) b c
-      (λ deeds others has are.
-      subst (λ ys. HasUses ys (deeds ++ others)) (append-nil calls) (uses_both calls [] deeds others has are))
-      among renewed in
-      used_then (λ own. own ≡ begun_for making) (HasUses calls) (HasUses (OfOperator x ∷ calls)) a (once_begun making a) c
-      (λ own rest begun has. (
-        [],
-        own,
-        rest,
-        refl,
-        All-nil IsRenewal,
-        subst (λ h. IsUseIf h own) (sym is) begun,
-        has,
-      )) (began_for making free a) behind
+-- where it was looked for, room was taken again first of all
+pub begins_renewed : (found : Room) (deeds : List DiskDeed) → deeds ≡ Renewed found ∷ [] → BeginsRenewed deeds
+begins_renewed found deeds is = subst BeginsRenewed (sym is) tt
 
--- nobody
-pub uses_none : (P O : Type 0) (a : Lent) → DoesMore (HasUses {P = P} {O = O} []) a a
-uses_none P O a = used_none (HasUses {P = P} {O = O} []) a (All-nil IsRenewal)
+-- what is begun does not give room up
+none_given : (making : Making) (own rest : List DiskDeed) → own ≡ begun_for making → own ≡ GaveUp true ∷ []
+    → BeginsRenewed rest
+none_given (ToPath path (Ok done)) own rest is given = absurd (let e = sym is ∙ given in cc)
+none_given (ToPath path (Err refusal.NotEmpty)) own rest is given = absurd (let e = sym is ∙ given in cc)
+none_given (ToPath path (Err refusal.Device)) own rest is given = absurd (let e = sym is ∙ given in cc)
+none_given (ToPath path (Err refusal.Memory)) own rest is given = absurd (let e = sym is ∙ given in cc)
+none_given (ToPath path (Err refusal.Busy)) own rest is given = absurd (let e = sym is ∙ given in cc)
+none_given (ToPath path (Err refusal.Ended)) own rest is given = absurd (let e = sym is ∙ given in cc)
+none_given (OfKey key printed told) own rest is given = absurd (let e = sym is ∙ given in cc)
 
--- an operator
-pub uses_operator : (P : Type 0) {O : Type 0} (x : Audience O) (a b : Lent) → UsesOnce x.heard a b
-    → DoesMore (HasUses {P = P} {O = O} (OfOperator x ∷ [])) a b
-uses_operator P {O} x a b (same, deeds, is, has) =
-    (same, deeds, is, ([], has.0, has.1, has.2, All-nil IsRenewal, has.3, has.4))
+-- an operator who had something made, and then others and looks for the reserve
+pub uses_behind : {P O : Type 0} (x : Audience O) (making : Making) (calls : List (Call P O))
+    (own among looks : List DiskDeed) → x.heard ≡ Some (Made making) → own ≡ begun_for making → HasUses calls among
+    → All IsRenewal looks → HasUses (OfOperator x ∷ calls) (own ++ (among ++ looks))
+uses_behind x making calls own among looks is begun has are = (
+  [],
+  own,
+  among ++ looks,
+  refl,
+  All-nil IsRenewal,
+  subst (λ h. IsUseIf h own) (sym is) begun,
+  none_given making own (among ++ looks) begun,
+  subst (λ ys. HasUses ys (among ++ looks)) (append-nil calls) (uses_then calls [] among looks has are),
+)

@@ -3,6 +3,7 @@ pub mod WallClock
 pub mod Copying
 pub mod Counted
 pub mod Faults
+pub mod Finds
 pub mod Metrics
 pub mod Health
 pub mod HealthText

@@ -8,10 +8,11 @@ use Rattle.world.specs.declared.registry.StoreFault.{StoreFault}
 use Rattle.control.specs.Faults.{Admits}
 use Rattle.control.specs.Notices.{Answered, AtMostOne, IsOfFault, IsOfRoom, Lost, Met, Occasion, Reserved, line_of}
 use Rattle.control.specs.Notices.{room_told}
-use Rattle.control.specs.Reserve.{is_whole}
+use Rattle.control.specs.Reserve.{DiskDeed, Renewed, is_whole}
 use Rattle.control.specs.Traffic.{CountsOne, StaysUncounted, was_published}
 use Rattle.control.specs.declared.faults.RecentFaults.{RecentFaults}
 use Rattle.control.specs.declared.reserve.Room.{Room}
+use Rattle.control.specs.declared.reserve.Room.TheVariants.{Whole}
 use Rattle.control.specs.declared.store_call.StoreCall.{StoreCall}
 use Rattle.control.specs.declared.notice.Notice.{Notice}
 use Rattle.control.specs.declared.traffic.Traffic.{Traffic}
@@ -101,10 +102,20 @@ AreOfRoom old new lines =
     ⊎ ((new ≢ old) × (told : Noted) × IsAbout (Reserved (room_told (is_whole new))) (Some told)
     × (lines ≡ noted_line told ∷ []))
 
--- the lines that are written of what is noted come first, and then at most one of the room on the disk
-abbrev pub BeginsWith : Option Noted → List (List ℕ) → Type 0
-BeginsWith noted lines =
-    (own : List (List ℕ)) × (room : List (List ℕ)) × (lines ≡ own ++ room) × AreOf noted own × AtMostOne IsOfRoom room
+-- the reserve was looked for once, so much of it was found, and these lines were written of that
+abbrev pub LooksOnce : Room → Room → List (List ℕ) → List DiskDeed → Type 0
+LooksOnce old new lines deeds = AreOfRoom old new lines × (deeds ≡ Renewed new ∷ [])
+
+-- so it was, unless all of it was there when it was last looked for
+abbrev pub LooksUnlessWhole : Room → Room → List (List ℕ) → List DiskDeed → Type 0
+LooksUnlessWhole old new lines deeds =
+    ((old ≡ Whole) × (new ≡ old) × (lines ≡ []) × (deeds ≡ [])) ⊎ ((old ≢ Whole) × LooksOnce old new lines deeds)
+
+-- the lines that are written of what is noted come first, and then the reserve is looked for
+abbrev pub NotesAndLooks : Option Noted → Room → Room → List (List ℕ) → List DiskDeed → Type 0
+NotesAndLooks noted found found_new lines deeds =
+    (own : List (List ℕ)) × (room : List (List ℕ)) × (lines ≡ own ++ room) × AreOf noted own
+    × LooksOnce found found_new room deeds
 
 -- The lines that are written for a peer: at most one of the room on the disk, and then at most one of a fault that its
 -- store noted, which is admitted behind those of the last minute.
@@ -116,3 +127,9 @@ pub record AreForPeer (faults faults_new : RecentFaults) (lines : List (List ℕ
   pub of_fault : AtMostOne IsOfFault fault
   pub noted : Option Noted
   pub unheld : AreUnheld faults faults_new noted fault
+
+-- so it is, and those of the room are of what was found when the reserve was looked for
+pub record TellsPeer (faults faults_new : RecentFaults) (found found_new : Room) (lines : List (List ℕ))
+    (deeds : List DiskDeed) : Type 0 where
+  pub lines_are : AreForPeer faults faults_new lines
+  pub looks : LooksUnlessWhole found found_new lines_are.room deeds

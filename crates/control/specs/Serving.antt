@@ -12,13 +12,13 @@ use Rattle.socket.specs.declared.deed.Deed.TheVariants as deed
 use Rattle.interleave.specs.Interleave.{IsAsItWas}
 use Rattle.interleave.specs.declared.between.CopyProgress.{CopyProgress}
 use Rattle.control.specs.Copying.{Making, AllRead, IsBegun, IsBusy, IsOnlyRead, tasks_in, has_read}
+use Rattle.control.specs.Finds.{WritesAndDoes}
 use Rattle.control.specs.Health.{Answered, IsPinged, with_one}
 use Rattle.control.specs.Notices.{WritesNotices}
 use Rattle.control.specs.Pinging.{TellsHowFar}
-use Rattle.control.specs.Reserve.{DoesMore, Lent, once_begun}
+use Rattle.control.specs.Reserve.{Lent, once_begun}
 use Rattle.control.specs.Tasks.{GoesThroughTasks}
-use Rattle.control.specs.Traces.{Log, WritesTrace, WritesTraces}
-use Rattle.control.specs.Uses.{HasUses, UsesOnce}
+use Rattle.control.specs.Traces.{Log, UsesAndTells, WritesTraces}
 use Rattle.control.specs.Visits.{Call, OfPeer, OfOperator, Untaken, IsCallThere, IsClosed, IsNoStop, IsStop, ObeysOne}
 use Rattle.control.specs.Visits.{Happened, TellsTally}
 use Rattle.control.specs.Visits.{answered_with, callers_of, connections_of, steps_with}
@@ -65,9 +65,9 @@ pub record ObeysMeanwhile {P O : Type 0} (heeded : O → Account × Reads) (told
     pub taken : after.taken ≡ before.taken + 1
     pub ends : after.stops ≡ (before.stops || stops)
     pub tells : IfOk obeys.audience.told (TellsHowFar far)
-    pub trace : WritesTrace obeys.audience.heard obeys.audience.told log.0 log_new.0
+    pub traces : WritesAndDoes (UsesAndTells obeys.audience.heard obeys.audience.told) log.0 log_new.0
+        room room_new
     pub faults : log_new.1 ≡ log.1
-    pub uses : UsesOnce obeys.audience.heard room room_new
 
 -- a peer was answered, left with the status of the reply if that was written whole, and ended, and counts as a connection
 pub record ServesPeer {P O : Type 0} (heard : P → Account × Reads) (written : P → Option (List ℕ) × Writes)
@@ -102,8 +102,7 @@ module _ {P O : Type 0} (heeded : O → Account × Reads) (told : O → Option (
     (counted : S → S → ℕ → Type 0) where
   -- From one moment to another, callers were served one after another, each once. If the flag is true, something was
   -- made for an operator meanwhile: the store was also read between them, and nobody was waited for. What was said of
-  -- them holds as `ServesEach`, `ReadsEach`, `EndsEach`, `TracesEach` and `UsesEach` say, and the progress goes on by
-  -- them.
+  -- them holds as `ServesEach`, `ReadsEach`, `EndsEach` and `TracesEach` say, and the progress goes on by them.
   pub record Serves (read : Bool) (door end : Door (Caller P O)) (before after : Progress)
       (log log_new : Log) (room room_new : Lent) (old new : S) : Type 0 where
     pub calls : List (Call P O)
@@ -121,8 +120,7 @@ module _ {P O : Type 0} (heeded : O → Account × Reads) (told : O → Option (
     pub left : before.left ≡ after.left + connections_of calls
     pub taken : after.taken ≡ before.taken + length calls
     pub ends : EndsBy before.stops after.stops calls
-    pub traces : WritesTraces calls log log_new
-    pub uses : DoesMore (HasUses calls) room room_new
+    pub traces : WritesTraces calls log log_new room room_new
 
   -- So it was while a copy was made, notices were written, and both loans of the server are the same ones.
   pub record ServesMeanwhile (a b : Instant P O S) : Type 0 where

@@ -7,13 +7,17 @@ use Rattle.engine.specs.declared.fault.Io.{Io}
 use Rattle.socket.specs.History.{Door, Known}
 use Rattle.socket.specs.declared.callers.Caller.{Caller}
 use Rattle.control.specs.Copying.{Making}
+use Rattle.control.specs.Finds.{TellsFinds, WritesAndDoes}
 use Rattle.control.specs.Hearing.{Heard, done_notice}
-use Rattle.control.specs.Noted.{AreForPeer, IsNoted, Noted}
+use Rattle.control.specs.Noted.{AreForPeer, IsNoted, LooksOnce, Noted}
 use Rattle.control.specs.Notices.{Answered, AtMostOne, IsOfRoom, Lost, Occasion, WritesLines, line_of}
-use Rattle.control.specs.Visits.{Call, EndsEach, IsLong, OfOperator, OfPeer, Untaken}
+use Rattle.control.specs.Reserve.{DiskDeed, Lent}
+use Rattle.control.specs.Uses.{HasUses, IsUseIf}
+use Rattle.control.specs.Visits.{Call, EndsEach, IsLong, OfOperator, OfPeer, Untaken, peers}
 use Rattle.control.specs.declared.control_reply.ControlReply.{ControlReply}
 use Rattle.control.specs.declared.control_reply.ControlReply.TheVariants as spoken
 use Rattle.control.specs.declared.faults.RecentFaults.{RecentFaults}
+use Rattle.control.specs.declared.reserve.Room.{Room}
 
 -- what was done is told of, and if nothing was, the outcome that the operator was told
 abbrev pub or_told : Option Occasion → Result ControlReply Io → Option Occasion
@@ -48,9 +52,17 @@ HasTrace heard said lines =
     (own : List (List ℕ)) × (room : List (List ℕ)) × (lines ≡ own ++ room) × AreFor (occasion_of heard said) own
     × AtMostOne IsOfRoom room
 
--- a line was written for an operator's order
-abbrev pub WritesTrace : Option Heard → Result ControlReply Io → (old new : Option (List ℕ) × Writes) → Type 0
-WritesTrace heard said old new = WritesLines (HasTrace heard said) old new
+-- the lines for an order, behind which the reserve was looked for
+abbrev pub TellsOrder : Option Heard → Result ControlReply Io → Room → Room → List (List ℕ) → List DiskDeed → Type 0
+TellsOrder heard said found found_new lines deeds =
+    (own : List (List ℕ)) × (room : List (List ℕ)) × (lines ≡ own ++ room) × AreFor (occasion_of heard said) own
+    × LooksOnce found found_new room deeds
+
+-- the order used the reserve as it may, before its lines were written so
+abbrev pub UsesAndTells : Option Heard → Result ControlReply Io → Room → Room → List (List ℕ) → List DiskDeed → Type 0
+UsesAndTells heard said found found_new lines deeds =
+    (used : List DiskDeed) × (looks : List DiskDeed) × (deeds ≡ used ++ looks) × IsUseIf heard used
+    × TellsOrder heard said found found_new lines looks
 
 module _ {P O : Type 0} where
   -- The lines are those of these callers, in their order; where something was made for an operator, its own come behind
@@ -65,26 +77,42 @@ module _ {P O : Type 0} where
       × ((inner ≡ []) ⊎ IsLong x.heard) × HasTrace x.heard x.told own × HasLines faults faults_new calls (inner ++ rest)
   HasLines faults faults_new (Untaken ∷ calls) lines = HasLines faults faults_new calls lines
 
-  -- so it is from the first fault on
-  abbrev pub HasTraces : List (Call P O) → List (List ℕ) → Type 0
-  HasTraces calls lines =
-      (faults : RecentFaults) × (faults_new : RecentFaults) × (faults.told.items ≡ [])
-      × HasLines faults faults_new calls lines
+  -- The lines are those of these callers. Each order used the reserve as `IsUse` allows, and a copy was begun for each
+  -- order of one, unless another was being made, and for nothing else. The lines of the reserve are of what was found,
+  -- also before each peer.
+  pub record HasTraces (calls : List (Call P O)) (faults faults_new : RecentFaults) (found found_new : Room)
+      (lines : List (List ℕ)) (deeds : List DiskDeed) : Type 0 where
+    pub has : HasLines faults faults_new calls lines
+    pub uses : HasUses calls deeds
+    pub finds : TellsFinds (peers calls) found found_new lines deeds
+
+  -- so it is from the first fault on, where so much of the reserve was found before
+  pub record HasAllTraces (found : Room) (calls : List (Call P O)) (lines : List (List ℕ)) (deeds : List DiskDeed) : Type 0
+    where
+      pub faults : RecentFaults
+      pub faults_new : RecentFaults
+      pub found_new : Room
+      pub none : faults.told.items ≡ []
+      pub traces : HasTraces calls faults faults_new found found_new lines deeds
 
 -- what a server tells: what its writer of notices took, with the calls to it, and the faults that are remembered
 abbrev pub Log : Type 0
 Log = (Option (List ℕ) × Writes) × RecentFaults
 
--- the lines of these callers were written
-abbrev pub WritesTraces : {P O : Type 0} → List (Call P O) → Log → Log → Type 0
-WritesTraces calls old new = WritesLines (HasLines old.1 new.1 calls) old.0 new.0
+-- the lines of these callers were written, and their orders used the reserve
+abbrev pub WritesTraces : {P O : Type 0} → List (Call P O) → Log → Log → Lent → Lent → Type 0
+WritesTraces calls old new room room_new =
+    WritesAndDoes (HasTraces calls old.1 new.1) old.0 new.0 room room_new
 
--- the callers were served as `EndsEach` says, and their lines were written
+-- The callers were served as `EndsEach` says, and their lines were written. Each order used the reserve, of which so
+-- much was there before, and each line of the reserve is of what was found then.
 pub record TracesEach {P O : Type 0} (heeded : O → Account × Reads) (told : O → Option (List ℕ) × Writes)
     (heard : P → Account × Reads) (written : P → Option (List ℕ) × Writes)
     {S : Type 0} (shown : S → Shown) (made : S → S → Making → Type 0)
     (counted : S → S → ℕ → Type 0) (known : Known P O)
     (door left : Door (Caller P O)) (old new : S) (since : List ℕ) (connections : ℕ)
-    (errors errors_new : Option (List ℕ) × Writes) : Type 0 where
+    (errors errors_new : Option (List ℕ) × Writes) (room : Room) (deeds deeds_new : List DiskDeed) : Type 0 where
   pub ends : EndsEach heeded told heard written shown made counted known door left old new since connections
-  pub traces : WritesLines (HasTraces ends.reads.each.calls) errors errors_new
+  pub more : List DiskDeed
+  pub are : deeds_new ≡ deeds ++ more
+  pub traces : WritesLines (λ lines. HasAllTraces room ends.reads.each.calls lines more) errors errors_new

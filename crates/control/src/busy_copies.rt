@@ -37,7 +37,7 @@ impl<'a, 'b, 'c, N: Loan, M: Moment, S: Shelves, K: Copies<S>, V: Reserve<S>> Co
     MonitoredStore<'a, N, InsertTracker<'c, M, S>>,
 > for BusyCopies<'b, K, V> {
     ghost use Rattle.std.specs.Prelude.{◌≡◌, Some};
-    ghost use Rattle.std.proofs.Common.{◌∙◌, refl};
+    ghost use Rattle.std.proofs.Common.{refl};
     ghost use Rattle.interleave.specs.Noted.{IsNoted, with_said};
     ghost use Rattle.control.specs.Copying.{IsBusy, IsOnlyRead};
     ghost use Rattle.control.specs.Metrics.{TellsKept};
@@ -99,13 +99,7 @@ impl<'a, 'b, 'c, N: Loan, M: Moment, S: Shelves, K: Copies<S>, V: Reserve<S>> Co
         <V as Reserve<S>>::give_up_room(self.reserve)
     }
 
-    fn renew_room(&mut self) {
-        self.reserve.keep_room();
-    }
-
     ghost is_same = { λ b. refl };
-
-    ghost stays_on = { λ a b c one two. two ∙ one };
 }
 
 /// Returns how many versions the store keeps. Fails as `Copies::versions` does.

@@ -27,8 +27,8 @@ pub fn carry_out<S: Shelves>(
     }
 }
 
-/// Carries out a registry command as [`carry_out`] does, once more if the disk failed and `copies` had room to give up,
-/// which is then taken again. It is one event, however often it is tried. Fails if the store meets a fault: with
+/// Carries out a registry command as [`carry_out`] does, once more if the disk failed and `copies` had room to give up.
+/// It is one event, however often it is tried. Fails if the store meets a fault: with
 /// `Device` only if no room was given up, or if the disk failed again with it.
 pub fn carry_out_in<S: Shelves, K: CopyOrders<S>>(
     shelves: &mut S,
@@ -48,7 +48,5 @@ pub fn carry_out_in<S: Shelves, K: CopyOrders<S>>(
     if !copies.give_up_room() {
         return first;
     }
-    let second = carry_out(shelves, command);
-    copies.renew_room();
-    second
+    carry_out(shelves, command)
 }

@@ -160,7 +160,7 @@ pub trait CopyOrders<S: Shelves> {
     ghost use Rattle.std.specs.Prelude.{ℕ, ◌≡◌, ◌<◌, ◌≤◌, ◌++◌, true, List, [], ◌∷◌, Err, IfOk};
     ghost use Rattle.std.specs.Io.KnownBytes.{Appends};
     ghost use Rattle.control.specs.Copying.{IsOnlyRead, Making, OfKey, ToPath};
-    ghost use Rattle.control.specs.Reserve.{DiskDeed, GaveUp, LeavesOthers, Renewed};
+    ghost use Rattle.control.specs.Reserve.{DiskDeed, GaveUp, LeavesOthers};
     ghost use Rattle.control.specs.declared.copies.CatalogRefusal.TheVariants as catalog;
     ghost use Rattle.control.specs.declared.health.Metrics.{Metrics};
     ghost use Rattle.world.specs.Store.{HasCause};
@@ -225,14 +225,6 @@ pub trait CopyOrders<S: Shelves> {
         ensures rests { rests self.old self.new }
         ensures others { result ≡ true → (s : S) → LeavesOthers (S.shown s) };
 
-    /// Takes as much of that room again as the disk has.
-    fn renew_room(&mut self)
-        ensures noted { deeds self.new ≡ deeds self.old ++ Renewed ∷ [] }
-        ensures rests { rests self.old self.new };
-
     // Where nothing was done, all stays.
     ghost is_same: { (k : Self) → rests k k };
-
-    // What stays twice stays.
-    ghost stays_on: { (a b c : Self) → rests a b → rests b c → rests a c };
 }

@@ -16,8 +16,8 @@ pub enum Room {
 }
 
 impl Room {
-    /// Whether all of it is there.
-    pub(crate) fn is_whole(self) -> bool
+    /// Returns whether all of it is there.
+    pub fn is_whole(self) -> bool
         ensures { result ≡ spec.is_whole self }
     {
         matches!(self, Room::Whole)
@@ -33,13 +33,13 @@ pub trait KeepsRoom {
     /// What was done with the room so far, and the copies that were begun, the oldest first.
     ghost deeds: { Self → List DiskDeed };
 
-    /// Has room kept from now on, and returns whether all of it is there.
-    fn make_room(&mut self) -> bool
+    /// Has room kept from now on, and returns how much of it there is.
+    fn make_room(&mut self) -> Room
         ensures noted { deeds self.new ≡ deeds self.old ++ Made result ∷ [] };
 
     /// Takes as much of the room again as the disk has, and returns how much that is.
     fn keep_room(&mut self) -> Room
-        ensures noted { deeds self.new ≡ deeds self.old ++ Renewed ∷ [] };
+        ensures noted { deeds self.new ≡ deeds self.old ++ Renewed result ∷ [] };
 
     /// Notes that a copy to a file with this path is begun.
     fn note_copy(&mut self, path: &str)

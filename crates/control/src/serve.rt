@@ -8,7 +8,6 @@ ghost use Rattle.control.specs.Reserve.{lent};
 ghost use Rattle.control.specs.Serving.{Serves};
 ghost use Rattle.control.specs.Tasks.{GoesOn};
 ghost use Rattle.control.specs.Traces.{TracesEach};
-ghost use Rattle.control.specs.Uses.{UsesEach};
 ghost use Rattle.control.specs.Visits.{EndsEach, ReadsEach, ServesEach};
 ghost use Rattle.socket.specs.declared.callers.Caller.{Caller};
 ghost use Rattle.socket.specs.declared.callers.Caller.TheVariants.{Operator};
@@ -18,7 +17,7 @@ use crate::copies::Copies;
 use crate::monitored_store::{Loan, MonitoredStore};
 use crate::obeying::note_told;
 use crate::operator::Operator;
-use crate::reserve::Reserve;
+use crate::reserve::{Reserve, Room};
 use crate::serving::{Server, is_stopping};
 use crate::wall_clock::WallClock;
 use histories::{ClockFace, Tell};
@@ -31,9 +30,10 @@ use world::shelves::Shelves;
 
 /// Takes `connections` connections of peers, one after another, and answers the first message on each. Between them it
 /// carries out the orders of operators, who do not count; `copies` makes their copies, `calendar` shows when each was
-/// made, and `reserve` keeps room for them. While a copy is made, those who connect are served. A ping gets the counts
-/// of the connections since the server began, which was at `since`. It waits for the next caller as long as that takes.
-/// It returns after the last peer, or once `Stopping` was written to an operator.
+/// made, and `reserve` keeps room for them, of which there was so much when it was last looked for. While a copy is
+/// made, those who connect are served. A ping gets the counts of the connections since the server began, which was at
+/// `since`. It waits for the next caller as long as that takes. It returns after the last peer, or once `Stopping` was
+/// written to an operator.
 ///
 /// What came of each order, and which faults the store met, is written to `errors`; if that fails, nothing else
 /// changes.
@@ -57,6 +57,7 @@ pub fn serve_both<
     shelves: &mut S,
     copies: &K,
     reserve: &mut V,
+    room: Room,
     calendar: D,
     since: TimeText,
     connections: u32,
@@ -87,18 +88,15 @@ pub fn serve_both<
     // The lines are those of the callers, one after another: for each order one of its own, that of its notice or one
     // which says that memory ran out for it, and for each peer at most one of a fault, which was not told in the minute
     // before. Each caller has at most one on the room for orders. They are whole, unless a write or a flush failed.
+    //
+    // A registry command that the disk refused is tried again with the room that is kept for that, if there is some.
+    // No other order, and nothing else that is done, gives it up. Each time that the room is then looked for, a line is
+    // written if there is more or less of it than the last time.
     ensures traces { TracesEach (both O.came O.reads) (both O.written O.writes)
         (both P.came P.reads) (both P.written P.writes) S.shown K.made K.counted L.known
         (both L.waiting L.history callers.old) (both L.waiting L.history callers.new)
         shelves.old shelves.new since connections
-        (both E.contents E.writes errors.old) (both E.contents E.writes errors.new) }
-    // A registry command that the disk refused is tried again with the room that is kept for that, if there is some,
-    // which is then taken again. No other order, and nothing else that is done, gives it up.
-    ensures uses { UsesEach (both O.came O.reads) (both O.written O.writes)
-        (both P.came P.reads) (both P.written P.writes) S.shown K.made K.counted L.known
-        (both L.waiting L.history callers.old) (both L.waiting L.history callers.new)
-        shelves.old shelves.new since connections
-        (both E.contents E.writes errors.old) (both E.contents E.writes errors.new)
+        (both E.contents E.writes errors.old) (both E.contents E.writes errors.new) room
         (V.deeds reserve.old) (V.deeds reserve.new) }
 {
     let _lent = serve_lent::<C, P, O, L, S, K, V, D, E, Brand>(
@@ -108,6 +106,7 @@ pub fn serve_both<
         shelves,
         copies,
         reserve,
+        room,
         calendar,
         since,
         connections,
@@ -144,6 +143,7 @@ fn serve_lent<
     shelves: &'a mut S,
     copies: &'a K,
     reserve: &'a mut V,
+    room: Room,
     calendar: D,
     since: TimeText,
     connections: u32,
@@ -172,12 +172,7 @@ fn serve_lent<
         (both P.came P.reads) (both P.written P.writes) S.shown K.made K.counted L.known
         (both L.waiting L.history callers.old) (both L.waiting L.history result.callers.now)
         shelves.old result.shelves.now since connections
-        (both E.contents E.writes errors.old) (both E.contents E.writes result.errors.now) }
-    ensures uses { UsesEach (both O.came O.reads) (both O.written O.writes)
-        (both P.came P.reads) (both P.written P.writes) S.shown K.made K.counted L.known
-        (both L.waiting L.history callers.old) (both L.waiting L.history result.callers.now)
-        shelves.old result.shelves.now since connections
-        (both E.contents E.writes errors.old) (both E.contents E.writes result.errors.now)
+        (both E.contents E.writes errors.old) (both E.contents E.writes result.errors.now) room
         (V.deeds reserve.old) (V.deeds result.reserve.now) }
 {
     let mut server = Server::new(
@@ -186,6 +181,7 @@ fn serve_lent<
         callers,
         copies,
         reserve,
+        room,
         calendar,
         errors,
         since,
@@ -225,7 +221,7 @@ impl<
             (both L.waiting L.history self.old.callers.now) (both L.waiting L.history self.new.callers.now)
             self.old.progress self.new.progress (both E.contents E.writes self.old.errors.now, self.old.faults)
             (both E.contents E.writes self.new.errors.now, self.new.faults)
-            (lent V.deeds self.old.reserve) (lent V.deeds self.new.reserve)
+            (lent V.deeds self.old.reserve self.old.room) (lent V.deeds self.new.reserve self.new.room)
             watched.old.inner.now watched.new.inner.now }
         ensures over { IsOver self.new.progress.stops self.new.progress.left self.new.progress.taken }
         ensures same { self.new.callers.ghost_name ≡ self.old.callers.ghost_name }
@@ -259,7 +255,7 @@ impl<
             door (both L.waiting L.history self.new.callers.now) self.old.progress self.new.progress
             (both E.contents E.writes self.old.errors.now, self.old.faults)
             (both E.contents E.writes self.new.errors.now, self.new.faults)
-            (lent V.deeds self.old.reserve) (lent V.deeds self.new.reserve)
+            (lent V.deeds self.old.reserve self.old.room) (lent V.deeds self.new.reserve self.new.room)
             watched.old.inner.now watched.new.inner.now }
         ensures taken { self.old.progress.taken + 1 ≤ self.new.progress.taken }
         ensures same { self.new.callers.ghost_name ≡ self.old.callers.ghost_name }

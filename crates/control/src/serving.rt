@@ -5,10 +5,11 @@ ghost use Rattle.std.specs.Option.{ForSome};
 ghost use Rattle.world.specs.World.{World};
 ghost use Rattle.control.specs.Counted.{CountsPublishes, HoldsBack, NotesAndTells};
 ghost use Rattle.control.specs.Health.{tally_of};
-ghost use Rattle.control.specs.Noted.{AreForPeer, AreOfRoom, AreUnheld, BeginsWith, noted_line};
+ghost use Rattle.control.specs.Finds.{WritesAndDoes};
+ghost use Rattle.control.specs.Noted.{AreUnheld, LooksOnce, LooksUnlessWhole, NotesAndLooks, TellsPeer, noted_line};
 ghost use Rattle.control.specs.Notices.{IsLineAbout, IsOfFault, WritesLines, WritesNotices};
 ghost use Rattle.control.specs.Progress.{IsGoing};
-ghost use Rattle.control.specs.Reserve.{Renews, lent};
+ghost use Rattle.control.specs.Reserve.{lent};
 
 use crate::control_reply::ControlReply;
 use crate::faults::RecentFaults;
@@ -56,7 +57,7 @@ pub(crate) struct Server<'x, C, P, O, L, K, V, D, E> {
     /// How far the copy is that is being made, for those who ask then; none while a catalog is printed.
     pub(crate) how_far: Option<CopyProgress>,
     /// How much there was of the room that is kept on the disk for orders, when it was last looked for.
-    room: Room,
+    pub(crate) room: Room,
     peers: PhantomData<P>,
     operators: PhantomData<O>,
 }
@@ -74,13 +75,14 @@ impl<
 > Server<'x, C, P, O, L, K, V, D, E> {
     ghost use Rattle.control.specs.Serving.{ServesPeer};
 
-    /// Returns a server that begins.
+    /// Returns a server that begins. There is so much of the room that `reserve` keeps.
     pub(crate) fn new(
         alloc: Global,
         clock: &'x C,
         callers: &'x mut L,
         copies: &'x K,
         reserve: &'x mut V,
+        room: Room,
         calendar: D,
         errors: &'x mut E,
         since: TimeText,
@@ -90,13 +92,13 @@ impl<
         ensures copies { result.copies.now ≡ copies.now }
         ensures errors { result.errors ≡ errors.entry }
         ensures faults { result.faults.told.items ≡ [] }
-        ensures renews { Renews (V.deeds reserve.old, reserve.entry.ghost_name) (lent V.deeds result.reserve) }
+        ensures reserve { result.reserve ≡ reserve.entry }
+        ensures room { result.room ≡ room }
         ensures tally { result.progress.tally ≡ tally_of since [] }
         ensures left { result.progress.left ≡ connections }
         ensures taken { result.progress.taken ≡ 0 }
         ensures stops { result.progress.stops ≡ false }
     {
-        let room = reserve.keep_room();
         Server {
             alloc,
             clock,
@@ -142,9 +144,11 @@ impl<
             self.old.progress self.new.progress (S.shown watched.old.inner.now) (S.shown watched.new.inner.now) }
         ensures same { self.new.callers.ghost_name ≡ self.old.callers.ghost_name }
         ensures notes { WritesNotices (E.contents self.old.errors.now) (E.contents self.new.errors.now) }
-        // At most one line of the room on the disk, and then at most one of a fault, which is then remembered.
-        ensures tells { WritesLines (AreForPeer self.old.faults self.new.faults)
-            (both E.contents E.writes self.old.errors.now) (both E.contents E.writes self.new.errors.now) }
+        // At most one line of the room on the disk, of what was found of it if not all had been there, and then at most
+        // one of a fault, which is then remembered.
+        ensures tells { WritesAndDoes (TellsPeer self.old.faults self.new.faults)
+            (both E.contents E.writes self.old.errors.now) (both E.contents E.writes self.new.errors.now)
+            (lent V.deeds self.old.reserve self.old.room) (lent V.deeds self.new.reserve self.new.room) }
         // What the peer published is counted, unless there is trouble of which a line is written.
         ensures counts { NotesAndTells (S.shown watched.old.inner.now) (S.shown watched.new.inner.now)
             watched.old.traffic watched.new.traffic self.old.room self.new.room self.old.faults self.new.faults
@@ -154,7 +158,6 @@ impl<
         ensures held { HoldsBack watched.new.is_held
             (S.shown watched.old.inner.now) (S.shown watched.new.inner.now) }
         ensures same_errors { self.new.errors.ghost_name ≡ self.old.errors.ghost_name }
-        ensures renews { Renews (lent V.deeds self.old.reserve) (lent V.deeds self.new.reserve) }
     {
         self.keep_room_unless_whole();
         watched.is_held = self.room == Room::Short;
@@ -216,10 +219,10 @@ impl<
         ensures progress { self.new.progress ≡ self.old.progress }
         ensures faults { self.new.faults ≡ self.old.faults }
         ensures notes { WritesNotices (E.contents self.old.errors.now) (E.contents self.new.errors.now) }
-        ensures tells { WritesLines (BeginsWith noted)
-            (both E.contents E.writes self.old.errors.now) (both E.contents E.writes self.new.errors.now) }
+        ensures tells { WritesAndDoes (NotesAndLooks noted)
+            (both E.contents E.writes self.old.errors.now) (both E.contents E.writes self.new.errors.now)
+            (lent V.deeds self.old.reserve self.old.room) (lent V.deeds self.new.reserve self.new.room) }
         ensures same_errors { self.new.errors.ghost_name ≡ self.old.errors.ghost_name }
-        ensures renews { Renews (lent V.deeds self.old.reserve) (lent V.deeds self.new.reserve) }
     {
         tell_if(noted, self.errors);
         self.keep_room_and_tell();
@@ -231,10 +234,10 @@ impl<
         ensures faults { self.new.faults ≡ self.old.faults }
         ensures progress { self.new.progress ≡ self.old.progress }
         ensures notes { WritesNotices (E.contents self.old.errors.now) (E.contents self.new.errors.now) }
-        ensures tells { WritesLines (AreOfRoom self.old.room self.new.room)
-            (both E.contents E.writes self.old.errors.now) (both E.contents E.writes self.new.errors.now) }
+        ensures tells { WritesAndDoes LooksOnce
+            (both E.contents E.writes self.old.errors.now) (both E.contents E.writes self.new.errors.now)
+            (lent V.deeds self.old.reserve self.old.room) (lent V.deeds self.new.reserve self.new.room) }
         ensures same_errors { self.new.errors.ghost_name ≡ self.old.errors.ghost_name }
-        ensures renews { Renews (lent V.deeds self.old.reserve) (lent V.deeds self.new.reserve) }
     {
         let room = self.reserve.keep_room();
         if room == self.room {
@@ -250,10 +253,10 @@ impl<
         ensures faults { self.new.faults ≡ self.old.faults }
         ensures progress { self.new.progress ≡ self.old.progress }
         ensures notes { WritesNotices (E.contents self.old.errors.now) (E.contents self.new.errors.now) }
-        ensures tells { WritesLines (AreOfRoom self.old.room self.new.room)
-            (both E.contents E.writes self.old.errors.now) (both E.contents E.writes self.new.errors.now) }
+        ensures tells { WritesAndDoes LooksUnlessWhole
+            (both E.contents E.writes self.old.errors.now) (both E.contents E.writes self.new.errors.now)
+            (lent V.deeds self.old.reserve self.old.room) (lent V.deeds self.new.reserve self.new.room) }
         ensures same_errors { self.new.errors.ghost_name ≡ self.old.errors.ghost_name }
-        ensures renews { Renews (lent V.deeds self.old.reserve) (lent V.deeds self.new.reserve) }
     {
         if self.room == Room::Whole {
             return;

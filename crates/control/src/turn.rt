@@ -73,7 +73,7 @@ impl<
             (both L.waiting L.history self.old.callers.now) (both L.waiting L.history self.new.callers.now)
             self.old.progress self.new.progress (both E.contents E.writes self.old.errors.now, self.old.faults)
             (both E.contents E.writes self.new.errors.now, self.new.faults)
-            (lent V.deeds self.old.reserve) (lent V.deeds self.new.reserve)
+            (lent V.deeds self.old.reserve self.old.room) (lent V.deeds self.new.reserve self.new.room)
             watched.old.inner.now watched.new.inner.now }
         ensures same { self.new.callers.ghost_name ≡ self.old.callers.ghost_name }
         ensures same_errors { self.new.errors.ghost_name ≡ self.old.errors.ghost_name }
@@ -117,7 +117,7 @@ impl<
             door (both L.waiting L.history self.new.callers.now) self.old.progress self.new.progress
             (both E.contents E.writes self.old.errors.now, self.old.faults)
             (both E.contents E.writes self.new.errors.now, self.new.faults)
-            (lent V.deeds self.old.reserve) (lent V.deeds self.new.reserve)
+            (lent V.deeds self.old.reserve self.old.room) (lent V.deeds self.new.reserve self.new.room)
             watched.old.inner.now watched.new.inner.now }
         ensures same { self.new.callers.ghost_name ≡ self.old.callers.ghost_name }
         ensures same_errors { self.new.errors.ghost_name ≡ self.old.errors.ghost_name }
@@ -145,7 +145,7 @@ impl<
             (both L.waiting L.history self.old.callers.now) (both L.waiting L.history self.new.callers.now)
             self.old.progress self.new.progress (both E.contents E.writes self.old.errors.now, self.old.faults)
             (both E.contents E.writes self.new.errors.now, self.new.faults)
-            (lent V.deeds self.old.reserve) (lent V.deeds self.new.reserve)
+            (lent V.deeds self.old.reserve self.old.room) (lent V.deeds self.new.reserve self.new.room)
             watched.old.inner.now watched.new.inner.now }
         ensures same { self.new.callers.ghost_name ≡ self.old.callers.ghost_name }
         ensures same_errors { self.new.errors.ghost_name ≡ self.old.errors.ghost_name }
@@ -180,7 +180,8 @@ impl<
             (both L.waiting L.history self.old.callers.now) (both L.waiting L.history self.new.callers.now)
             self.old.progress self.new.progress (both E.contents E.writes self.old.errors.now, self.old.faults)
             (both E.contents E.writes self.new.errors.now, self.new.faults)
-            (lent V.deeds self.old.reserve) (lent V.deeds self.new.reserve) noting.old result.now }
+            (lent V.deeds self.old.reserve self.old.room) (lent V.deeds self.new.reserve self.new.room)
+            noting.old result.now }
         ensures same { self.new.callers.ghost_name ≡ self.old.callers.ghost_name }
         ensures same_errors { self.new.errors.ghost_name ≡ self.old.errors.ghost_name }
         ensures notes { WritesNotices (E.contents self.old.errors.now) (E.contents self.new.errors.now) }
@@ -214,7 +215,8 @@ impl<
             (both L.waiting L.history self.old.callers.now) (both L.waiting L.history self.new.callers.now)
             self.old.progress self.new.progress (both E.contents E.writes self.old.errors.now, self.old.faults)
             (both E.contents E.writes self.new.errors.now, self.new.faults)
-            (lent V.deeds self.old.reserve) (lent V.deeds self.new.reserve) shelves.old result.shelves.now }
+            (lent V.deeds self.old.reserve self.old.room) (lent V.deeds self.new.reserve self.new.room)
+            shelves.old result.shelves.now }
         ensures newcomers { result.lost ≡ false
             → Notes (S.shown shelves.old) (S.shown result.shelves.now) news.old news.new }
         ensures same { self.new.callers.ghost_name ≡ self.old.callers.ghost_name }
@@ -262,7 +264,7 @@ impl<
           progress = old.progress;
           log = (both E.contents E.writes old.errors.now, old.faults);
           lent = (old.callers.ghost_name, old.errors.ghost_name);
-          room = lent V.deeds old.reserve;
+          room = lent V.deeds old.reserve old.room;
           store = s;
         })
         (record {
@@ -270,7 +272,7 @@ impl<
           progress = new.progress;
           log = (both E.contents E.writes new.errors.now, new.faults);
           lent = (new.callers.ghost_name, new.errors.ghost_name);
-          room = lent V.deeds new.reserve;
+          room = lent V.deeds new.reserve new.room;
           store = t;
         }) };
 
@@ -328,7 +330,7 @@ impl<
     E: Tell,
 > CopyOrders<MonitoredStore<'a, N, S>> for Server<'x, C, P, O, L, K, V, D, E> {
     ghost use Rattle.std.specs.Prelude.{◌≡◌, None};
-    ghost use Rattle.std.proofs.Common.{◌∙◌, refl};
+    ghost use Rattle.std.proofs.Common.{refl};
     ghost use Rattle.socket.specs.Connections.{both};
     ghost use Rattle.control.specs.Copying.{ToPath};
     ghost use Rattle.control.specs.Metrics.{TellsKept};
@@ -352,7 +354,7 @@ impl<
           progress = old.progress;
           log = (both E.contents E.writes old.errors.now, old.faults);
           lent = (old.callers.ghost_name, old.errors.ghost_name);
-          room = lent V.deeds old.reserve;
+          room = lent V.deeds old.reserve old.room;
           store = s.inner.now;
         })
         (record {
@@ -360,16 +362,16 @@ impl<
           progress = new.progress;
           log = (both E.contents E.writes new.errors.now, new.faults);
           lent = (new.callers.ghost_name, new.errors.ghost_name);
-          room = lent V.deeds new.reserve;
+          room = lent V.deeds new.reserve new.room;
           store = t.inner.now;
         })
         (⟦<Server<'x, C, P, O, L, K, V, D, E> as Between<S>>⟧.ended new) making };
 
     ghost deeds = { λ s. V.deeds s.reserve.now };
 
-    /// Whoever calls, how far it has come, what it told and its reserve are the same.
-    ghost rests = { λ a b. (b.callers ≡ a.callers) × (b.progress ≡ a.progress)
-        × (b.errors ≡ a.errors) × (b.faults ≡ a.faults) × (b.reserve.ghost_name ≡ a.reserve.ghost_name) };
+    /// Whoever calls, how far it has come, what it told, and its reserve and how much there was of it are the same.
+    ghost rests = { λ a b. (b.callers ≡ a.callers) × (b.progress ≡ a.progress) × (b.errors ≡ a.errors)
+        × (b.faults ≡ a.faults) × (b.reserve.ghost_name ≡ a.reserve.ghost_name) × (b.room ≡ a.room) };
 
     /// Also notes that the copy is begun, and when it was made, if it was.
     fn copy_to(
@@ -426,12 +428,5 @@ impl<
         <V as Reserve<S>>::give_up_room(self.reserve)
     }
 
-    fn renew_room(&mut self) {
-        self.reserve.keep_room();
-    }
-
-    ghost is_same = { λ s. (refl, refl, refl, refl, refl) };
-
-    ghost stays_on = { λ a b c one two.
-        (two.0 ∙ one.0, two.1 ∙ one.1, two.2 ∙ one.2, two.3 ∙ one.3, two.4 ∙ one.4) };
+    ghost is_same = { λ s. (refl, refl, refl, refl, refl, refl) };
 }

@@ -7,7 +7,7 @@ use Rattle.runner.specs.declared.reserve.Deed.TheVariants.{Made, GaveUp, Renewed
 
 -- a deed, by the name that is noted with it
 abbrev pub disk_deed : List ℕ × Deed → DiskDeed
-disk_deed (name, Made is_whole) = disk.Made is_whole
+disk_deed (name, Made found) = disk.Made found
 disk_deed (name, GaveUp some) = disk.GaveUp some
-disk_deed (name, Renewed) = disk.Renewed
+disk_deed (name, Renewed found) = disk.Renewed found
 disk_deed (name, BeganCopy) = disk.BeganCopy name

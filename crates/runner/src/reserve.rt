@@ -1,6 +1,6 @@
 //! Room on the disk of a served store: a file beside it, which is cut when an order needs room. That these lines do so
 //! is read and tested, and not proved.
-ghost use Rattle.std.specs.Prelude.{◌≡◌, []};
+ghost use Rattle.std.specs.Prelude.{◌≡◌, [], if◌then◌else◌};
 
 use control::{KeepsRoom, Reserve, Room};
 use sqlite::Alter;
@@ -41,12 +41,12 @@ const PIECE: [u8; 4_096] = [0; 4_096];
 /// What a reserve notes.
 #[derive(Clone, Copy, Debug, Drop, PartialEq, Eq)]
 pub(crate) enum Deed {
-    /// It was made, or one that was there was filled, and all of it is there or not.
-    Made(bool),
+    /// It was made, or one that was there was filled, and there is so much of it.
+    Made(Room),
     /// Room was asked for, and there was some to give up or none.
     GaveUp(bool),
-    /// As much of it as the disk has room for was taken again.
-    Renewed,
+    /// As much of it as the disk has room for was taken again, and so much was found.
+    Renewed(Room),
     /// A copy was begun, to a file with the path that is noted beside this.
     BeganCopy,
 }
@@ -79,15 +79,15 @@ impl<'a> KeepsRoom for SystemReserve<'a> {
 
     ghost deeds = { λ r. map disk_deed r.noted.deeds };
 
-    fn make_room(&mut self) -> bool {
-        let is_whole = make(self.rt, self.db);
-        self.noted.note(b"", &Deed::Made(is_whole));
-        is_whole
+    fn make_room(&mut self) -> Room {
+        let room = make(self.rt, self.db);
+        self.noted.note(b"", &Deed::Made(room));
+        room
     }
 
     fn keep_room(&mut self) -> Room {
         let room = keep(self.rt, self.db);
-        self.noted.note(b"", &Deed::Renewed);
+        self.noted.note(b"", &Deed::Renewed(room));
         room
     }
 
@@ -109,10 +109,10 @@ fn give_up(rt: &HostRuntime, db: &str) -> bool {
     cut(rt, db).unwrap_or(false)
 }
 
-/// Makes the reserve of the store at `db` if there is none, fills it, and returns whether all of it is there. False if
-/// it can't be made, or if another file has its name.
-fn make(rt: &HostRuntime, db: &str) -> bool {
-    begun(rt, db).unwrap_or(false)
+/// Makes the reserve of the store at `db` if there is none, fills it as far as the disk has room, and returns how much
+/// of it is there. `Missing` if it can't be made, or if another file has its name.
+fn make(rt: &HostRuntime, db: &str) -> Room {
+    begun(rt, db).unwrap_or(Room::Missing)
 }
 
 /// Fills the reserve of the store at `db` as far as the disk has room, and returns how much of it is there.
@@ -133,26 +133,27 @@ fn cut(rt: &HostRuntime, db: &str) -> io::Result<bool> {
     Ok(true)
 }
 
-fn begun(rt: &HostRuntime, db: &str) -> io::Result<bool> {
+fn begun(rt: &HostRuntime, db: &str) -> io::Result<Room> {
     let name = name_of(rt, db)?;
     let Some(file) = opened(rt, db, name.as_str())? else {
-        return made(rt, name.as_str());
+        let is_made = made(rt, name.as_str())?;
+        return Ok(if is_made { Room::Whole } else { Room::Missing });
     };
-    if !refilled(&file)? {
-        return Ok(false);
-    }
-    enlarged(rt, &file)
+    Ok(whole_or_short(refilled(&file)? && enlarged(rt, &file)?))
 }
 
 fn filled(rt: &HostRuntime, db: &str) -> io::Result<Room> {
     let Some(file) = opened(rt, db, name_of(rt, db)?.as_str())? else {
         return Ok(Room::Missing);
     };
-    if refilled(&file)? {
-        Ok(Room::Whole)
-    } else {
-        Ok(Room::Short)
-    }
+    Ok(whole_or_short(refilled(&file)?))
+}
+
+/// Returns how much there is of a reserve, by whether all of it is there.
+fn whole_or_short(is_whole: bool) -> Room
+    ensures { result ≡ if is_whole then Room.Whole else Room.Short }
+{
+    if is_whole { Room::Whole } else { Room::Short }
 }
 
 /// Fills a reserve up to the bytes that it is to have, as far as the disk has room, and returns whether it has them.

@@ -5,8 +5,7 @@ use Rattle.commands.proofs.serve.serve_told.Goals as goal
 
 pub returns-clause-each : goal.returns-clause-each
 returns-clause-each g c =
-    let uses = c.serve_both.ensures.uses in
-    let served = uses.traces in
+    let served = c.serve_both.ensures.traces in
     record {
       mid = c.versions-versions.new.shelves;
       counts = c.versions-versions.ensures.reads;
@@ -14,10 +13,11 @@ returns-clause-each g c =
       cause = c.versions-versions.ensures.cause;
       number = c.versions-versions.ensures.counted;
       each = served.ends;
-      lines = lines_of_serve _ _ served.ends.reads.each.calls _ _ _ _ _ _ _ _
+      more = served.more;
+      are = served.are;
+      lines = lines_of_serve _ _ served.ends.reads.each.calls _ _ _ _ _ _ _ _ _
           (rw c.served.ensures at c.opened.ensures) c.tell.ensures.tells c.tell_room.ensures.tells served.traces
           (rw c.served-2.ensures at c.ended.ensures) c.tell-2.ensures.tells;
-      uses = (uses.more, uses.are, uses.uses);
     }
 
 pub returns-clause-goes : goal.returns-clause-goes

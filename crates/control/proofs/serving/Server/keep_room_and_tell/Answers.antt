@@ -1,8 +1,8 @@
-use Rattle.std.proofs.Common.{◌≢◌, inl, refl, rules}
+use Rattle.std.proofs.Common.{◌≡◌, ◌≢◌, inl, refl, rules}
 use Rattle.control.specs.Noted.{AreOfRoom}
 use Rattle.control.proofs.NotedLemmas.{room_written}
 use Rattle.control.proofs.NoticeLemmas.{none_written, notices_none}
-use Rattle.control.proofs.UseLemmas.{renewed_once}
+use Rattle.control.proofs.FindLemmas.{looks_so}
 use Rattle.control.proofs.serving.Server.keep_room_and_tell.Goals as goal
 
 pub returns-then-eq-clause-notes : goal.returns-then-eq-clause-notes
@@ -10,16 +10,13 @@ returns-then-eq-clause-notes g c = notices_none _
 
 pub returns-then-eq-clause-tells : goal.returns-then-eq-clause-tells
 returns-then-eq-clause-tells g c =
-    none_written (AreOfRoom c.args.self.now.room c.args.self.now.room) _ (inl (refl, refl))
+    let same : c.keep_room-room.result ≡ c.args.self.now.room = search rules in
+    looks_so _ _ _ _ refl (rw same at c.keep_room-room.ensures.noted)
+    (none_written (AreOfRoom c.args.self.now.room c.args.self.now.room) _ (inl (refl, refl)))
 
 pub returns-clause-tells : goal.returns-clause-tells
 returns-clause-tells g c =
     let changed : c.keep_room-room.result ≢ c.args.self.now.room = search rules in
-    room_written c.args.self.now.room c.keep_room-room.result c.reserved.result _ _ changed
-    (rw c.is_whole.ensures at c.reserved.ensures) c.tell.ensures.tells
-
-pub returns-then-eq-clause-renews : goal.returns-then-eq-clause-renews
-returns-then-eq-clause-renews g c = renewed_once _ _ refl c.keep_room-room.ensures.noted
-
-pub returns-clause-renews : goal.returns-clause-renews
-returns-clause-renews g c = renewed_once _ _ refl c.keep_room-room.ensures.noted
+    looks_so _ _ _ _ refl c.keep_room-room.ensures.noted
+    (room_written c.args.self.now.room c.keep_room-room.result c.reserved.result _ _ changed
+    (rw c.is_whole.ensures at c.reserved.ensures) c.tell.ensures.tells)

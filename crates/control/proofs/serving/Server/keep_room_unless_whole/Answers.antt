@@ -1,7 +1,8 @@
-use Rattle.std.proofs.Common.{inl, refl}
-use Rattle.control.specs.Noted.{AreOfRoom}
-use Rattle.control.proofs.NoticeLemmas.{none_written, notices_none}
-use Rattle.control.proofs.UseLemmas.{renewed_none}
+use Rattle.std.proofs.Common.{◌≢◌, inl, inr, refl, rules}
+use Rattle.control.specs.declared.reserve.Room.TheVariants.{Whole}
+use Rattle.control.specs.Noted.{LooksOnce, LooksUnlessWhole}
+use Rattle.control.proofs.FindLemmas.{does_none, does_so}
+use Rattle.control.proofs.NoticeLemmas.{notices_none}
 use Rattle.control.proofs.serving.Server.keep_room_unless_whole.Goals as goal
 
 pub returns-then-eq-clause-notes : goal.returns-then-eq-clause-notes
@@ -9,7 +10,11 @@ returns-then-eq-clause-notes g c = notices_none _
 
 pub returns-then-eq-clause-tells : goal.returns-then-eq-clause-tells
 returns-then-eq-clause-tells g c =
-    none_written (AreOfRoom c.args.self.now.room c.args.self.now.room) _ (inl (refl, refl))
+    does_none LooksUnlessWhole _ _
+    (inl (search rules, refl, refl, refl))
 
-pub returns-then-eq-clause-renews : goal.returns-then-eq-clause-renews
-returns-then-eq-clause-renews g c = renewed_none _
+pub returns-clause-tells : goal.returns-clause-tells
+returns-clause-tells g c =
+    let short : c.args.self.now.room ≢ Whole = search rules in
+    does_so LooksOnce LooksUnlessWhole _ _ _ _ (λ lines deeds looks. inr (short, looks))
+    c.keep_room_and_tell.ensures.tells

@@ -3,15 +3,16 @@ use Rattle.std.specs.Prelude.{IfOk}
 use Rattle.socket.specs.Connections.{both}
 use Rattle.interleave.specs.Noted.{IsNoted, with_said}
 use Rattle.control.specs.Copying.{IsBusy, IsOnlyRead, Making}
+use Rattle.control.specs.Finds.{WritesAndDoes}
 use Rattle.control.specs.Health.{IsPinged}
 use Rattle.control.specs.Pinging.{TellsHowFar}
 use Rattle.control.specs.Reserve.{lent}
-use Rattle.control.specs.Traces.{WritesTrace}
-use Rattle.control.specs.Uses.{UsesOnce}
+use Rattle.control.specs.Traces.{UsesAndTells}
 use Rattle.control.proofs.FarLemmas.{obeys_meanwhile, tells_how_far}
 use Rattle.control.proofs.ServeLemmas.{obeyed_one, obeyed_told, obeyed_trace}
+use Rattle.control.proofs.TraceLemmas.{order_traced}
 use Rattle.control.proofs.OrderedLemmas.{obeys_unsaid, unsaid_audience}
-use Rattle.control.proofs.UseLemmas.{used_behind, used_one, used_so, uses_once}
+use Rattle.control.proofs.UseLemmas.{used_behind, used_one, used_so}
 use Rattle.control.proofs.serving.Server.obey_meanwhile.Goals as goal
 
 pub returns-clause-obeys : goal.returns-clause-obeys
@@ -24,8 +25,6 @@ returns-clause-obeys g c =
     let after = errors c.tell.new.self.errors.now in
     let obeyed = obeyed_one (both o.came o.reads) (both o.written o.writes) _ _ _ _ _ _ _ _ c.is_stopping.result _ _
     given.obeys given.cause c.is_stopping.ensures in
-    let trace = obeyed_trace (both o.came o.reads) (both o.written o.writes) _ _ _ _ _ _ _ _ _ _ _ _
-    given.obeys given.cause c.is_stopping.ensures before after c.note_told-noted.ensures c.tell.ensures.tells in
     let shown = g.S.Shelves.shown in
     let w = c.obey_with-after.new.watched in
     let old = c.args.watched.now.inner.now.inner.now in
@@ -35,10 +34,16 @@ returns-clause-obeys g c =
     (g.K.Copies.counted old new)) c.obey_with-after.result.0.told given.figures in
     let deeds = g.V.KeepsRoom.deeds in
     let name = c.args.self.now.reserve.ghost_name in
-    let used = used_one _ _ _ _ _ _ _ _ _ _ _ _ (lent deeds c.obey_with-after.result.1.reserve) obeyed
-    (λ heard rest. used_so _ _ _ _ heard rest.0 rest.1) (λ making done. (ap (λ b. lent deeds b.reserve) done.0, done.2)) in
+    let room = c.args.self.now.room in
+    let used = used_one _ _ _ _ _ _ _ _ _ _ _ _ (lent deeds c.obey_with-after.result.1.reserve room) obeyed
+    (λ heard rest. used_so _ _ _ _ heard rest.0 refl rest.1)
+    (λ making done. (ap (λ b. lent deeds b.reserve room) done.0, done.2)) in
     let ends : c.self-1.given.0 ≡ c.obey_with-after.result.1.reserve.now = c.self-1.given.1 (sym given.same) in
-    let once = uses_once obeyed.audience.heard _ _ _ (used_behind _ name _ _ used) (rw ends at c.tell.ensures.renews) in
+    let told_so = obeyed_trace (both o.came o.reads) (both o.written o.writes) _ _ _ _ _ _ _ _ _ _ _ _
+    given.obeys given.cause c.is_stopping.ensures before after _ _ c.note_told-noted.ensures
+    (rw ends at c.tell.ensures.tells) in
+    let traces = order_traced obeyed.audience.heard obeyed.audience.told before after _ _ _ (used_behind _ name _ _ used)
+    told_so in
     let m = g.M.Moment in
     let was = c.args.watched.now.inner.now in
     let now = w.inner.now in
@@ -50,8 +55,9 @@ returns-clause-obeys g c =
     (obeys_unsaid _ _ _ _ _ _ still _ _ _ _ _ (λ making done. (done.1, done.2)) obeyed)
     (subst (λ r. IfOk r (TellsHowFar far))
     (sym (ap (λ x. x.told) same ∙ obeyed_told _ _ _ _ _ _ _ _ _ _ _ _ _ _ _ _)) told)
-    (subst (λ x. WritesTrace x.heard x.told before after) (sym same) trace) c.tell.ensures.faults
-    (subst (λ x. UsesOnce x.heard (lent deeds c.args.self.now.reserve) (lent deeds c.tell.new.self.reserve)) (sym same) once)
+    (subst (λ x. WritesAndDoes (UsesAndTells x.heard x.told) before after
+    (lent deeds c.args.self.now.reserve room) (lent deeds c.tell.new.self.reserve c.tell.new.self.room)) (sym same) traces)
+    c.tell.ensures.faults
     c.count_operator.ensures.tally (rw c.tell.ensures.same at c.end_operator.ensures)
     (rw c.tell.ensures.progress (c.end_if.ensures.tally ∙ c.count_operator.ensures.tally))
     (rw c.tell.ensures.progress (c.end_if.ensures.left ∙ c.count_operator.ensures.left))

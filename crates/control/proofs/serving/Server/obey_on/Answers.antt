@@ -18,12 +18,14 @@ returns-clause-serves g c = λ door takes fresh.
     let mid = errors c.obeyed-after.new.copies.errors.now in
     let last = errors c.tell.new.self.errors.now in
     let trace = obeyed_trace (both o.came o.reads) (both o.written o.writes) _ _ _ _ _ _ _ _ _ _ _ _
-    c.obeyed-after.ensures.obeys c.obeyed-after.ensures.cause c.is_stopping.ensures mid last c.note_told-noted.ensures
-    c.tell.ensures.tells in
+    c.obeyed-after.ensures.obeys c.obeyed-after.ensures.cause c.is_stopping.ensures mid last _ _
+    c.note_told-noted.ensures c.tell.ensures.tells in
     rw c.tell.ensures.progress
     (obey_serves _ _ _ _ _ _ _ _ door _ _ _ _ _ _ _ (errors c.args.self.now.errors.now, c.args.self.now.faults)
     (mid, c.obeyed-after.new.copies.faults) (last, c.tell.new.self.faults)
-    (room c.args.self.now.reserve) (room c.obeyed-after.new.copies.reserve) (room c.tell.new.self.reserve) _ _ _ _
+    (room c.args.self.now.reserve c.args.self.now.room)
+    (room c.obeyed-after.new.copies.reserve c.obeyed-after.new.copies.room)
+    (room c.tell.new.self.reserve c.tell.new.self.room) _ _ _ _
     (λ heard same. (
       (let e : c.obeyed-after.new.copies.callers ≡ c.args.self.now.callers = same.0.0 in
           ap (λ x. both g.L.Callers.waiting g.L.Callers.history x.now) e),
@@ -31,7 +33,7 @@ returns-clause-serves g c = λ door takes fresh.
       (let e : c.obeyed-after.new.copies.errors ≡ c.args.self.now.errors = same.0.2 in
           ap (λ x. (errors x.now, c.obeyed-after.new.copies.faults)) e
           ∙ ap (λ y. (errors c.args.self.now.errors.now, y)) same.0.3),
-      used_so _ _ _ _ heard same.0.4 same.1,
+      used_so _ _ _ _ heard same.0.4 same.0.5 same.1,
     ))
     (λ making made. (
       both g.L.Callers.waiting g.L.Callers.history made.watching,
@@ -42,7 +44,6 @@ returns-clause-serves g c = λ door takes fresh.
       made.begun.begun,
     ))
     c.args.operator _ c.is_stopping.result takes fresh c.requires.0 next trace c.tell.ensures.faults
-    c.tell.ensures.renews
     (rw c.tell.ensures.same at c.end_operator.ensures)
     c.count_operator.ensures.tally c.count_operator.ensures.left c.count_operator.ensures.taken
     c.count_operator.ensures.stops c.end_if.ensures.tally c.end_if.ensures.left c.end_if.ensures.taken

@@ -34,7 +34,7 @@ loop-preserved g c =
             (serves_peer _ _ _ _ _ _ _ _ false _ _ _ _ _ _ _ _ _ _ _ _
             (rw w.in-Ok-Peer.field-0-is at w.in-Ok-Peer.ensures.takes)
             (rw w.in-Ok-Peer.field-0-is at w.in-Ok-Peer.ensures.fresh) going.0 w.answer.ensures.serves
-            w.answer.ensures.tells w.answer.ensures.renews);
+            w.answer.ensures.tells);
         same = w.answer.ensures.same ∙ holds.same;
         same_errors = w.answer.ensures.same_errors ∙ holds.same_errors;
         notes = notices_more _ _ _ holds.notes w.answer.ensures.notes;

@@ -19,7 +19,8 @@ invariant-loop g l =
           g.L.Callers.known s.shown g.K.Copies.made g.K.Copies.counted false
           (door l.fn.self.callers.now) (door l.self.callers.now) l.fn.self.progress l.self.progress
           (errors l.fn.self.errors.now, l.fn.self.faults) (errors l.self.errors.now, l.self.faults)
-          (lent g.V.KeepsRoom.deeds l.fn.self.reserve) (lent g.V.KeepsRoom.deeds l.self.reserve)
+          (lent g.V.KeepsRoom.deeds l.fn.self.reserve l.fn.self.room)
+          (lent g.V.KeepsRoom.deeds l.self.reserve l.self.room)
           l.fn.watched.inner.now l.watched.inner.now;
       same : l.self.callers.ghost_name ≡ l.fn.self.callers.ghost_name;
       same_errors : l.self.errors.ghost_name ≡ l.fn.self.errors.ghost_name;

@@ -15,7 +15,7 @@ returns-in-Ok-Peer-clause-serves g c = λ door takes fresh.
     serves_peer _ _ _ _ _ _ _ _ true door _ _ _ _ _ _ _ _ _ _ c.in-Ok-Peer.peer
     (rw c.in-Ok-Peer.field-0-is at (rw c.in-Ok-Peer.is at takes))
     (rw c.in-Ok-Peer.field-0-is at (rw c.in-Ok-Peer.is at fresh)) c.requires.0 c.answer.ensures.serves
-    c.answer.ensures.tells c.answer.ensures.renews
+    c.answer.ensures.tells
 
 pub returns-in-Err-clause-serves : goal.returns-in-Err-clause-serves
 returns-in-Err-clause-serves g c = λ door takes fresh.

@@ -8,7 +8,9 @@ mod Numbers
 mod Modules
 mod Objects
 mod Lines
+mod Blank
 mod ReadLemmas
 mod PastLemmas
 mod SinceLemmas
 mod TurnLemmas
+mod KeyLemmas

@@ -1,55 +1,55 @@
 -- Lines that were printed one after another, with turns between them.
-use Rattle.std.proofs.Common.{◌≡◌, ◌≤◌, ◌∙◌, ◌++◌, ℕ, List, [], ◌∷◌, Option, Some, None, Result, Ok, Err, refl, sym, ap}
+use Rattle.std.proofs.Common.{◌≡◌, ◌≤◌, ◌∙◌, ◌++◌, ℕ, List, [], ◌∷◌, Option, None, Result, Ok, Err, refl, sym, ap}
 use Rattle.std.proofs.Common.{append-nil, append_assoc, arith, subst}
+use Rattle.std.proofs.lemmas.List.Elements.{Contains-append_right}
 use Rattle.std.proofs.KnownBytes.{Appends-nil, Appends-trans}
 use Rattle.std.specs.FinMap as map
 use Rattle.std.specs.FinSet as set
-use Rattle.std.specs.Io.KnownBytes.{Appends, Keeps}
+use Rattle.std.specs.Io.KnownBytes.{Appends}
 use Rattle.std.specs.List.{flat_map}
-use Rattle.std.specs.Prelude.{Bool, true, false, cond, IsErrAnd, IsErrOf, MatchResult, OnOk}
+use Rattle.std.specs.Prelude.{cond, Contains, IsErrAnd, IsErrOf, OnErr, OnOk}
 use Rattle.interleave.specs.Interleave.{IsSince, Notes, StandsForOne}
 use Rattle.world.proofs.Causes.{grown_before}
+use Rattle.world.proofs.Members.{first_member}
 use Rattle.world.specs.Store.{Shown, Reads}
 use Rattle.world.specs.World.{World, IsWorld, place_cmp}
-use Rattle.world.specs.declared.entry.Holder.{Holder}
 use Rattle.world.specs.declared.registry.StoreFault.{StoreFault}
 use Rattle.world.specs.declared.registry.StoreFault.TheVariants as fault
-use Rattle.catalog.specs.Catalog.{lines_seen}
 use Rattle.histories.specs.Calls.{Writes}
 use Rattle.catalog.specs.Meanwhile.{
   FailsOn,
+  IsCut,
   IsNotOutput,
-  PrintsCatalogOn,
   PrintsOn,
   StaysOn,
   past,
   there,
   unread_on,
 }
-use Rattle.catalog.specs.Printing.{FailsBy, Puts, lines_of_key}
+use Rattle.catalog.specs.Printing.{FailsBy, Puts}
 use Rattle.catalog.specs.declared.between.CatalogEnd.{CatalogEnd}
 use Rattle.catalog.specs.declared.between.CatalogEnd.TheVariants as end
 use Rattle.catalog.specs.declared.print.PrintError.{PrintError}
 use Rattle.catalog.specs.declared.print.PrintError.TheVariants as why
-use Rattle.catalog.proofs.Printed.{Appends-Keeps, Streams}
+use Rattle.catalog.proofs.Printed.{Streams}
 
 -- ---- faults
 
 -- a fault of a device is told as one
-told_on : {T U : Type 0} (f : StoreFault) → IsErrOf {T = U} (Err (unread_on f)) (end.PrintError why.Device)
+pub told_on : {T U : Type 0} (f : StoreFault) → IsErrOf {T = U} (Err (unread_on f)) (end.PrintError why.Device)
     → IsErrOf {T = T} (Err f) fault.Device
 told_on fault.Device failed = refl
 told_on fault.Memory failed = cc
 
 -- after a fault of the store nothing was printed
 pub fault_on : {T U : Type 0} (a b : Shown) (f : StoreFault) (value : World → U) (lines : World → List ℕ)
-    (written : Option (List ℕ)) → Reads a b (Err f) value
-    → PrintsOn {T = T} a b written written (Err (unread_on f)) lines
-fault_on a b f value lines written read = record {
+    (may : World → Type 0) (written : Option (List ℕ)) → ((w : World) → lines w ≡ [] → may w) → Reads a b (Err f) value
+    → PrintsOn {T = T} a b written written (Err (unread_on f)) lines may
+fault_on a b f value lines may written none read = record {
   printed = [];
   appends = Appends-nil written;
   honest = read.honest;
-  at = λ h w stands. record { all = tt; front = (lines w, refl); stays = tt };
+  at = λ h w stands. record { all = tt; front = (lines w, refl); cut = λ failed all. none w (sym all); stays = tt };
   no_fewer = read.cause.no_fewer;
   device = λ failed. read.cause.device (told_on f failed);
 }
@@ -110,33 +110,41 @@ module _ (a b c : Shown) (before after : set.FinSet place_cmp) (s : List ℕ) (r
 -- ---- a line
 
 -- a line was printed, and then there were turns
-pub line_on : (a b : Shown) (line : List ℕ) (written now : Option (List ℕ)) (result : Result (Unit {0}) CatalogEnd)
-    → Appends written now line → StaysOn a b result → PrintsOn a b written now result (λ _. line)
-line_on a b line written now result put stays = record {
+pub line_on : (a b : Shown) (line : List ℕ) (written now : Option (List ℕ)) (halts : Type 0)
+    (result : Result (Unit {0}) CatalogEnd) → Appends written now line → StaysOn a b result → OnErr result halts
+    → PrintsOn a b written now result (λ _. line) (λ _. halts)
+line_on a b line written now halts result put stays cause = record {
   printed = line;
   appends = put;
   honest = stays.honest;
   at = λ h w stands. record {
     all = all result;
     front = ([], sym (append-nil line));
+    cut = λ failed _. halted result failed cause;
     stays = stays.at h w stands;
   };
   no_fewer = stays.no_fewer;
   device = stays.device;
 }
   where
+    halted : (r : Result (Unit {0}) CatalogEnd) → IsCut r → OnErr r halts → halts
+    halted (Ok u) failed by = absurd failed
+    halted (Err e) failed by = by
+
     all : (r : Result (Unit {0}) CatalogEnd) → OnOk r (line ≡ line)
     all (Ok u) = refl
     all (Err e) = tt
 
 -- or the output failed
-pub line_cut : (a : Shown) (line : List ℕ) (written now : Option (List ℕ)) (e : PrintError)
-    → Puts written now line (Err e) → PrintsOn {T = Unit {0}} a a written now (Err (end.PrintError e)) (λ _. line)
-line_cut a line written now e put = record {
+pub line_cut : (a : Shown) (line : List ℕ) (written now : Option (List ℕ)) (halts : Type 0) (e : PrintError)
+    → Puts written now line (Err e)
+    → PrintsOn {T = Unit {0}} a a written now (Err (end.PrintError e)) (λ _. line) (λ _. halts)
+line_cut a line written now halts e put = record {
   printed = put.1.0;
   appends = put.1.2;
   honest = λ h. h;
-  at = λ h w stands. record { all = tt; front = put.1.1; stays = tt };
+  at = λ h w stands.
+      record { all = tt; front = put.1.1; cut = λ failed _. absurd (not_cut e put.0 failed); stays = tt };
   no_fewer = omega arith;
   device = λ failed. absurd (not_device e put.0 failed);
 }
@@ -145,26 +153,33 @@ line_cut a line written now e put = record {
         → IsErrOf {T = Unit {0}} (Err (end.PrintError u)) (end.PrintError why.Device) → ⊥
     not_device u is failed = cc
 
+    not_cut : (u : PrintError) → u ≡ why.Output → IsCut {T = Unit {0}} (Err (end.PrintError u)) → ⊥
+    not_cut why.Output is failed = failed
+    not_cut why.Device is failed = cc
+    not_cut why.Memory is failed = cc
+
 -- nothing was to be printed
-pub none_on : (a : Shown) (written : Option (List ℕ)) (lines : World → List ℕ) → ((w : World) → lines w ≡ [])
-    → PrintsOn {T = Unit {0}} a a written written (Ok tt) lines
-none_on a written lines none = record {
+pub none_on : (a : Shown) (written : Option (List ℕ)) (lines : World → List ℕ) (may : World → Type 0)
+    → ((w : World) → lines w ≡ []) → PrintsOn {T = Unit {0}} a a written written (Ok tt) lines may
+none_on a written lines may none = record {
   printed = [];
   appends = Appends-nil written;
   honest = λ h. h;
-  at = λ h w stands. record { all = sym (none w); front = ([], none w); stays = stands };
+  at = λ h w stands.
+      record { all = sym (none w); front = ([], none w); cut = λ failed. absurd failed; stays = stands };
   no_fewer = omega arith;
   device = λ failed. absurd (let e = failed in cc);
 }
 
 -- nothing was printed, since memory ran out
-pub memory_on : (a : Shown) (written : Option (List ℕ)) (lines : World → List ℕ)
-    → PrintsOn {T = Unit {0}} a a written written (Err (end.PrintError why.Memory)) lines
-memory_on a written lines = record {
+pub memory_on : (a : Shown) (written : Option (List ℕ)) (lines : World → List ℕ) (may : World → Type 0)
+    → ((w : World) → lines w ≡ [] → may w)
+    → PrintsOn {T = Unit {0}} a a written written (Err (end.PrintError why.Memory)) lines may
+memory_on a written lines may none = record {
   printed = [];
   appends = Appends-nil written;
   honest = λ h. h;
-  at = λ h w stands. record { all = tt; front = (lines w, refl); stays = tt };
+  at = λ h w stands. record { all = tt; front = (lines w, refl); cut = λ failed all. none w (sym all); stays = tt };
   no_fewer = omega arith;
   device = λ failed. absurd (let e = failed in cc);
 }
@@ -172,9 +187,10 @@ memory_on a written lines = record {
 module _ {T : Type 0} (a b c : Shown) (x : T) (of : World → T) (read : Reads a b (Ok x) of)
     (written now : Option (List ℕ)) (result : Result (Unit {0}) CatalogEnd) where
   -- lines that go by what was read
-  pub read_prints : (some lines : World → List ℕ) → ((w : World) → x ≡ of w → some w ≡ lines w)
-      → PrintsOn b c written now result some → PrintsOn a c written now result lines
-  read_prints some lines same it = record {
+  pub read_prints : (some lines : World → List ℕ) (some_may may : World → Type 0)
+      → ((w : World) → x ≡ of w → some w ≡ lines w) → ((w : World) → a.stands w → x ≡ of w → some_may w → may w)
+      → PrintsOn b c written now result some some_may → PrintsOn a c written now result lines may
+  read_prints some lines some_may may same then it = record {
     printed = it.printed;
     appends = it.appends;
     honest = λ h. read.honest (it.honest h);
@@ -185,17 +201,18 @@ module _ {T : Type 0} (a b c : Shown) (x : T) (of : World → T) (read : Reads a
         record {
           all = subst (λ l. OnOk result (it.printed ≡ l)) is here.all;
           front = (here.front.0, sym is ∙ here.front.1);
+          cut = λ failed all. then w stands was.answer (here.cut failed (all ∙ sym is));
           stays = here.stays;
         };
     no_fewer = let one = read.cause.no_fewer in let two = it.no_fewer in omega (arith, one, two);
     device = λ failed. grown_before _ _ _ read.cause.no_fewer (it.device failed);
   }
 
-module _ (a b c : Shown) (written now : Option (List ℕ)) (lines : World → List ℕ) where
+module _ (a b c : Shown) (written now : Option (List ℕ)) (lines : World → List ℕ) (may : World → Type 0) where
   -- lines that were printed after turns
   pub turns_print : (result : Result (Unit {0}) CatalogEnd) → StaysOn {T = Unit {0}} a b (Ok tt)
-      → PrintsOn b c written now result lines
-      → PrintsOn a c written now result lines
+      → PrintsOn b c written now result lines may
+      → PrintsOn a c written now result lines may
   turns_print result first it = record {
     printed = it.printed;
     appends = it.appends;
@@ -206,29 +223,48 @@ module _ (a b c : Shown) (written now : Option (List ℕ)) (lines : World → Li
   }
 
 -- turns that ended it printed nothing
-pub turns_cut : (a b : Shown) (written : Option (List ℕ)) (lines : World → List ℕ) (e : CatalogEnd)
-    → StaysOn {T = Unit {0}} a b (Err e) → PrintsOn {T = Unit {0}} a b written written (Err e) lines
-turns_cut a b written lines e first = record {
+pub turns_cut : (a b : Shown) (written : Option (List ℕ)) (lines : World → List ℕ) (may : World → Type 0)
+    (e : CatalogEnd) → ((w : World) → may w) → StaysOn {T = Unit {0}} a b (Err e)
+    → PrintsOn {T = Unit {0}} a b written written (Err e) lines may
+turns_cut a b written lines may e halts first = record {
   printed = [];
   appends = Appends-nil written;
   honest = first.honest;
-  at = λ h w stands. record { all = tt; front = (lines w, refl); stays = tt };
+  at = λ h w stands. record { all = tt; front = (lines w, refl); cut = λ failed all. halts w; stays = tt };
   no_fewer = first.no_fewer;
   device = first.device;
 }
 
 -- ---- one line after another
 
-module _ {X : Type 0} (f : World → X → List ℕ) (goal : World → List ℕ) where
+-- a beginning of some lines is all of them if it is so with more lines before and after it
+front_all : (before front lines left rest : List ℕ) → lines ≡ front ++ left
+    → before ++ front ≡ before ++ (lines ++ rest) → front ≡ lines
+front_all before front lines left rest begins same =
+    let here : front ≡ front ++ (left ++ rest) =
+    same_rest before front (lines ++ rest) same ∙ ap (λ l. l ++ rest) begins ∙ append_assoc front left rest in
+    let none : left ≡ [] = nothing_left front left rest here in
+    sym (begins ∙ ap (λ l. front ++ l) none ∙ append-nil front)
+  where
+    same_rest : (xs ys zs : List ℕ) → xs ++ ys ≡ xs ++ zs → ys ≡ zs
+    same_rest [] ys zs same = same
+    same_rest (x ∷ xs) ys zs same = same_rest xs ys zs (let is = same in cc)
+
+    nothing_left : (xs ys zs : List ℕ) → xs ≡ xs ++ (ys ++ zs) → ys ≡ []
+    nothing_left [] [] zs same = refl
+    nothing_left [] (y ∷ ys) zs same = cc
+    nothing_left (x ∷ xs) ys zs same = nothing_left xs ys zs (let is = same in cc)
+
+module _ {X : Type 0} (f : World → X → List ℕ) (goal : World → List ℕ) (all : World → List X) where
   module _ (a b c : Shown) (written mid now : Option (List ℕ)) (x : X) (left rest : List X)
-      (begins : left ≡ x ∷ rest) (far : Streams f goal a b written mid left) where
+      (begins : left ≡ x ∷ rest) (far : Streams f goal all a b written mid left) (may : World → Type 0) where
     held : (w : World) → far.printed ++ flat_map (f w) left ≡ goal w
         → far.printed ++ (f w x ++ flat_map (f w) rest) ≡ goal w
     held w is = ap (λ xs. far.printed ++ flat_map (f w) xs) (sym begins) ∙ is
 
     -- if the lines of the next piece were printed, it goes on; of what a crash leaves nothing is said
-    pub on_next : ((y z : World) → a.leaves y z → ⊥) → PrintsOn {T = Unit {0}} b c mid now (Ok tt) (λ w. f w x)
-        → Streams f goal a c written now rest
+    pub on_next : ((y z : World) → a.leaves y z → ⊥) → PrintsOn {T = Unit {0}} b c mid now (Ok tt) (λ w. f w x) may
+        → Streams f goal all a c written now rest
     on_next silent it = record {
       printed = far.printed ++ it.printed;
       appends = Appends-trans written mid now far.printed it.printed far.appends it.appends;
@@ -238,8 +274,13 @@ module _ {X : Type 0} (f : World → X → List ℕ) (goal : World → List ℕ)
             let was = far.holds.at (it.honest h) w stands in
             let here = it.at h w was.stays in
             record {
-              holds = append_assoc far.printed it.printed (flat_map (f w) rest)
-                  ∙ ap (λ l. far.printed ++ (l ++ flat_map (f w) rest)) here.all ∙ held w was.holds;
+              holds = record {
+                lines = append_assoc far.printed it.printed (flat_map (f w) rest)
+                    ∙ ap (λ l. far.printed ++ (l ++ flat_map (f w) rest)) here.all ∙ held w was.holds.lines;
+                before = was.holds.before ++ x ∷ [];
+                pieces = was.holds.pieces ∙ ap (λ xs. was.holds.before ++ xs) begins
+                    ∙ sym (append_assoc was.holds.before (x ∷ []) rest);
+              };
               stays = here.stays;
               left = λ y z given. absurd (silent y z given);
             };
@@ -249,9 +290,11 @@ module _ {X : Type 0} (f : World → X → List ℕ) (goal : World → List ℕ)
 
     -- if a failure came in between, a beginning was printed
     pub on_failed : (e : CatalogEnd) (result : Result (Unit {0}) CatalogEnd) → IsErrAnd result (λ it. it ≡ e)
-        → PrintsOn {T = Unit {0}} b c mid now (Err e) (λ w. f w x) → PrintsOn a c written now result goal
-    on_failed e (Ok u) is it = absurd is
-    on_failed e (Err other) is it = record {
+        → (whole_may : World → Type 0)
+        → ((w : World) → a.stands w → Contains (all w) x → may w → whole_may w)
+        → PrintsOn {T = Unit {0}} b c mid now (Err e) (λ w. f w x) may → PrintsOn a c written now result goal whole_may
+    on_failed e (Ok u) is whole_may then it = absurd is
+    on_failed e (Err other) is whole_may then it = record {
       printed = far.printed ++ it.printed;
       appends = Appends-trans written mid now far.printed it.printed far.appends it.appends;
       honest = λ h. far.holds.honest (it.honest h);
@@ -263,10 +306,16 @@ module _ {X : Type 0} (f : World → X → List ℕ) (goal : World → List ℕ)
             all = tt;
             front = (
               more,
-              sym (held w was.holds) ∙ ap (λ l. far.printed ++ (l ++ flat_map (f w) rest)) here.front.1
+              sym (held w was.holds.lines) ∙ ap (λ l. far.printed ++ (l ++ flat_map (f w) rest)) here.front.1
                   ∙ ap (λ l. far.printed ++ l) (append_assoc it.printed here.front.0 (flat_map (f w) rest))
                   ∙ sym (append_assoc far.printed it.printed more),
             );
+            cut = λ failed whole. then w stands
+                (subst (λ xs. Contains xs x) (sym (was.holds.pieces ∙ ap (λ xs. was.holds.before ++ xs) begins))
+                (Contains-append_right was.holds.before (x ∷ rest) x (first_member x rest)))
+                (here.cut (subst (λ k. IsCut {T = Unit {0}} (Err k)) is failed)
+                (front_all far.printed it.printed (f w x) here.front.0 (flat_map (f w) rest) here.front.1
+                (whole ∙ sym (held w was.holds.lines))));
             stays = tt;
           };
       no_fewer = let one = far.holds.no_fewer in let two = it.no_fewer in omega (arith, one, two);
@@ -275,29 +324,40 @@ module _ {X : Type 0} (f : World → X → List ℕ) (goal : World → List ℕ)
     }
 
   -- with no piece left all lines were printed
-  pub on_end : (a b : Shown) (written now : Option (List ℕ)) (left : List X) → left ≡ []
-      → Streams f goal a b written now left → PrintsOn {T = Unit {0}} a b written now (Ok tt) goal
-  on_end a b written now left none far = record {
+  pub on_end : (a b : Shown) (written now : Option (List ℕ)) (may : World → Type 0) (left : List X) → left ≡ []
+      → Streams f goal all a b written now left → PrintsOn {T = Unit {0}} a b written now (Ok tt) goal may
+  on_end a b written now may left none far = record {
     printed = far.printed;
     appends = far.appends;
     honest = far.holds.honest;
     at = λ h w stands.
         let here = far.holds.at h w stands in
-        let all = sym (append-nil far.printed) ∙ ap (λ xs. far.printed ++ flat_map (f w) xs) (sym none) ∙ here.holds in
-        record { all = all; front = ([], sym all ∙ sym (append-nil far.printed)); stays = here.stays };
+        let same =
+        sym (append-nil far.printed) ∙ ap (λ xs. far.printed ++ flat_map (f w) xs) (sym none) ∙ here.holds.lines in
+        record {
+          all = same;
+          front = ([], sym same ∙ sym (append-nil far.printed));
+          cut = λ failed. absurd failed;
+          stays = here.stays;
+        };
     no_fewer = far.holds.no_fewer;
     device = λ failed. absurd (let e = failed in cc);
   }
 
   -- it begins with all pieces left, where they are told
   pub on_first : (a : Shown) (written : Option (List ℕ)) (pieces : List X)
-      → ((w : World) → flat_map (f w) pieces ≡ goal w) → Streams f goal a a written written pieces
-  on_first a written pieces all = record {
+      → ((w : World) → flat_map (f w) pieces ≡ goal w) → ((w : World) → all w ≡ pieces)
+      → Streams f goal all a a written written pieces
+  on_first a written pieces lines whole = record {
     printed = [];
     appends = Appends-nil written;
     holds = record {
       honest = λ h. h;
-      at = λ h w stands. record { holds = all w; stays = stands; left = λ y z given. given };
+      at = λ h w stands. record {
+        holds = record { lines = lines w; before = []; pieces = whole w };
+        stays = stands;
+        left = λ y z given. given;
+      };
       no_fewer = omega arith;
     };
   }
@@ -378,103 +438,3 @@ reads_there a b s result of sound read = record {
       };
   cause = record { no_fewer = read.cause.no_fewer; device = read.cause.device };
 }
-
--- ---- of a key
-
-module _ (a b : Shown) (key : List ℕ) (written : Option (List ℕ)) where
-  -- without the key nothing was printed
-  pub none_keyed : (found : Option Holder) → found ≡ None → Reads a b (Ok found) (λ w. map.get w.keys key)
-      → PrintsCatalogOn a b key written written (Ok false)
-  none_keyed found none read = record {
-    printed = [];
-    appends = Appends-nil written;
-    honest = read.honest;
-    at = λ h w stands.
-        let is = sym (read.at h w stands).answer ∙ none in
-        record {
-          all = ap (λ o. lines_of_key o w) (sym is);
-          front = (lines_of_key (map.get w.keys key) w, refl);
-          answers = is;
-        };
-    no_fewer = read.cause.no_fewer;
-    device = λ failed. absurd (let e = failed in cc);
-  }
-
-  -- nor after a fault
-  pub fault_keyed : (f : StoreFault) → Reads a b (Err f) (λ w. map.get w.keys key)
-      → PrintsCatalogOn a b key written written (Err (unread_on f))
-  fault_keyed f read = record {
-    printed = [];
-    appends = Appends-nil written;
-    honest = read.honest;
-    at = λ h w stands.
-        record { all = tt; front = (lines_of_key (map.get w.keys key) w, refl); answers = tt };
-    no_fewer = read.cause.no_fewer;
-    device = λ failed. read.cause.device (told_on f failed);
-  }
-
-  module _ (c : Shown) (now : Option (List ℕ)) (holder : Holder) (found : Option Holder) (some : found ≡ Some holder)
-      (sound : (w : World) → a.stands w → IsWorld w) (read : Reads a b (Ok found) (λ w. map.get w.keys key)) where
-    -- the lines of the key are those of its shelf, which is there
-    same : (w : World) → found ≡ map.get w.keys key → lines_seen w holder.shelf ≡ lines_of_key (map.get w.keys key) w
-    same w is = ap (λ o. lines_of_key o w) (sym some ∙ is)
-
-    shelf_there : (w : World) → a.stands w → found ≡ map.get w.keys key
-        → map.contains_key w.shelves holder.shelf ≡ true
-    shelf_there w stands is = (sound w stands).keys_stand key holder (sym is ∙ some)
-
-    module _ (news : set.FinSet place_cmp) where
-      -- a failure while its lines are printed
-      pub cut_keyed : (e : CatalogEnd) → PrintsOn {T = Unit {0}} (there b holder.shelf) (past c news holder.shelf)
-          written now (Err e) (λ w. lines_seen w holder.shelf) → PrintsCatalogOn a c key written now (Err e)
-      cut_keyed e it = record {
-        printed = it.printed;
-        appends = it.appends;
-        honest = λ h. read.honest (it.honest h);
-        at = λ h w stands.
-            let was = read.at (it.honest h) w stands in
-            let here = it.at h w (was.stays, shelf_there w stands was.answer) in
-            record {
-              all = tt;
-              front = (here.front.0, sym (same w was.answer) ∙ here.front.1);
-              answers = tt;
-            };
-        no_fewer = let one = read.cause.no_fewer in let two = it.no_fewer in omega (arith, one, two);
-        device = λ failed. grown_before _ _ _ read.cause.no_fewer (it.device (let e = failed in cc));
-      }
-
-      -- all of its lines were printed, and then flushed or not
-      pub whole_keyed : (last : Option (List ℕ)) (result : Result Bool CatalogEnd)
-          → PrintsOn {T = Unit {0}} (there b holder.shelf) (past c news holder.shelf) written now (Ok tt)
-          (λ w. lines_seen w holder.shelf)
-          → Keeps now last → MatchResult result (λ is. is ≡ true) (λ e. e ≡ end.PrintError why.Output)
-          → PrintsCatalogOn a c key written last result
-      whole_keyed last (Ok false) it kept is = absurd (let e = is in cc)
-      whole_keyed last (Ok true) it kept is = record {
-        printed = it.printed;
-        appends = Appends-Keeps written now last it.printed it.appends kept;
-        honest = λ h. read.honest (it.honest h);
-        at = λ h w stands.
-            let was = read.at (it.honest h) w stands in
-            let here = it.at h w (was.stays, shelf_there w stands was.answer) in
-            let all = here.all ∙ same w was.answer in
-            record {
-              all = all;
-              front = ([], sym all ∙ sym (append-nil it.printed));
-              answers = (holder, sym was.answer ∙ some);
-            };
-        no_fewer = let one = read.cause.no_fewer in let two = it.no_fewer in omega (arith, one, two);
-        device = λ failed. absurd (let e = failed in cc);
-      }
-      whole_keyed last (Err e) it kept is = record {
-        printed = it.printed;
-        appends = Appends-Keeps written now last it.printed it.appends kept;
-        honest = λ h. read.honest (it.honest h);
-        at = λ h w stands.
-            let was = read.at (it.honest h) w stands in
-            let here = it.at h w (was.stays, shelf_there w stands was.answer) in
-            let all = here.all ∙ same w was.answer in
-            record { all = tt; front = ([], sym all ∙ sym (append-nil it.printed)); answers = tt };
-        no_fewer = let one = read.cause.no_fewer in let two = it.no_fewer in omega (arith, one, two);
-        device = λ failed. absurd (let same_e = is in let e = failed in cc);
-      }

@@ -23,12 +23,20 @@ Puts written written_new text result =
     MatchResult result (λ _. Appends written written_new text)
     (λ e. (e ≡ why.Output) × ((front : List ℕ) × IsFront front text × Appends written written_new front))
 
+-- it failed, and not because the output failed
+abbrev pub IsUnread : {T : Type 0} → Result T PrintError → Type 0
+IsUnread (Ok x) = ⊥
+IsUnread (Err why.Output) = ⊥
+IsUnread (Err other) = Unit {0}
+
 -- in this world all of the lines were printed, or a beginning of them and then there was a failure; the store is as it
 -- was
 pub record PrintsAt {T : Type 0} (old new : Shown) (w : World) (result : Result T PrintError)
     (lines printed : List ℕ) : Type 0 where
   pub all : OnOk result (printed ≡ lines)
   pub front : IsFront printed lines
+  -- if the output did not fail, a failure came before the end of the lines, or there are none
+  pub cut : IsUnread result → printed ≡ lines → lines ≡ []
   pub stays : new.stands w
   pub left : AddsNothing old new
 

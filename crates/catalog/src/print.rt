@@ -23,8 +23,9 @@ pub enum PrintError {
 
 /// Prints the catalog of a key, and returns true: exactly one line for each version that its shelf sees, the paths by
 /// their bytes, the versions of each by precedence. (SemVer 2.0.0, section 11.) Returns false if there is no such key.
-/// If it fails, a beginning of the lines is printed. It takes the memory of the list of paths, of what one path says
-/// and of a line.
+/// `Device` or `Memory` if the store meets a fault or memory runs out: then a beginning of the lines is printed, and
+/// not all of them, unless there are none. `Output` if the output fails: then a beginning is printed, or all of them.
+/// It takes the memory of the list of paths, of what one path says and of a line.
 pub fn print_catalog<S: Outlines + Keyring, O: Tell>(
     alloc: Global,
     shelves: &mut S,

@@ -13,7 +13,7 @@ use world::shelves::Shelves;
 
 /// What is done between two lines.
 pub(crate) trait Turns<S: Shelves, O: Tell> {
-    ghost use Rattle.std.specs.Prelude.{◌≡◌, List, ℕ, IsErrOf};
+    ghost use Rattle.std.specs.Prelude.{◌≡◌, List, ℕ, IsErrOf, OnErr};
     ghost use Rattle.interleave.specs.Interleave.{IsAsItWas};
     ghost use Rattle.catalog.specs.Meanwhile.{IsNotOutput, StaysOn, past};
     ghost use Rattle.catalog.specs.declared.between.CatalogEnd.TheVariants.{Ended};
@@ -25,6 +25,9 @@ pub(crate) trait Turns<S: Shelves, O: Tell> {
     /// Why it ends a catalog: what is so of this value when it does.
     ghost ended: { Self → Type 0 };
 
+    /// Whether a turn may end or fail.
+    ghost halts: { Type 0 };
+
     /// Has a turn taken with the store, and notes the place of each version that the turn publishes. Fails with `Ended`
     /// if the turn ends the catalog, and with `Device` or `Memory` if the store meets a fault or memory runs out.
     fn take(&mut self, shelves: &mut S, news: &mut Newcomers) -> Result<(), CatalogEnd>
@@ -32,6 +35,7 @@ pub(crate) trait Turns<S: Shelves, O: Tell> {
             (past (S.shown shelves.new) news.new s) result }
         ensures went { went self.old self.new shelves.old shelves.new }
         ensures ended { IsErrOf result Ended → ended self.new }
+        ensures halts { OnErr result halts }
         ensures output { IsNotOutput result };
 
     /// Begins the time that the output has for the next line.
@@ -58,6 +62,8 @@ impl<S: Shelves, O: Tell> Turns<S, O> for NoTurns {
 
     ghost ended = { λ a. ⊥ };
 
+    ghost halts = { ⊥ };
+
     fn take(&mut self, _shelves: &mut S, _news: &mut Newcomers) -> Result<(), CatalogEnd> {
         Ok(())
     }
@@ -83,6 +89,8 @@ impl<'a, S: Definite, O: ResetDeadline, B: Between<S>> Turns<S, O> for TurnsBetw
         (b.between.ghost_name ≡ a.between.ghost_name) × B.went a.between.now b.between.now s t };
 
     ghost ended = { λ a. B.ended a.between.now };
+
+    ghost halts = { Unit {0} };
 
     fn take(&mut self, shelves: &mut S, news: &mut Newcomers) -> Result<(), CatalogEnd> {
         take_turn(shelves, news, self.between)

@@ -41,7 +41,7 @@ pub(crate) fn print_lines<S: Outlines + Keyring, O: Tell, T: Turns<S, O>>(
     turns: &mut T,
 ) -> Result<bool, CatalogEnd>
     // The catalog is of the world that the store stood for at first.
-    ensures prints { spec.PrintsCatalogOn (S.shown shelves.old) (S.shown shelves.new) key.now
+    ensures prints { spec.PrintsLines T.halts (S.shown shelves.old) (S.shown shelves.new) key.now
         (O.contents output.old) (O.contents output.new) result }
     // The store was read and had turns.
     ensures went { T.went turns.old turns.new shelves.old shelves.new }
@@ -71,7 +71,7 @@ fn print_all<S: Outlines + Keyring, O: Tell, T: Turns<S, O>>(
 ) -> Result<(), CatalogEnd>
     ensures prints { (news : set.FinSet place_cmp) × spec.PrintsOn (spec.there (S.shown shelves.old) shelf.now)
         (spec.past (S.shown shelves.new) news shelf.now) (O.contents output.old) (O.contents output.new) result
-        (λ w. lines_seen w shelf.now) }
+        (λ w. lines_seen w shelf.now) (spec.HaltsOrNone T.halts (λ w. lines_seen w shelf.now)) }
     ensures went { T.went turns.old turns.new shelves.old shelves.new }
     ensures ended { IsErrOf result CatalogEnd.Ended → T.ended turns.new }
     ensures fails { spec.FailsOn (O.writes output.old) (O.writes output.new) result }
@@ -107,7 +107,8 @@ fn print_text<S: Outlines + Keyring, O: Tell, T: Turns<S, O>>(
 ) -> Result<(), CatalogEnd>
     ensures prints { spec.PrintsOn (spec.past (S.shown shelves.old) news.old shelf.now)
         (spec.past (S.shown shelves.new) news.new shelf.now) (O.contents output.old) (O.contents output.new) result
-        (λ w. lines_of_text w shelf.now text.now) }
+        (λ w. lines_of_text w shelf.now text.now)
+        (spec.HaltsOrNone T.halts (λ w. lines_of_text w shelf.now text.now)) }
     ensures went { T.went turns.old turns.new shelves.old shelves.new }
     ensures ended { IsErrOf result CatalogEnd.Ended → T.ended turns.new }
     ensures fails { spec.FailsOn (O.writes output.old) (O.writes output.new) result }
@@ -131,7 +132,8 @@ fn print_path<S: Outlines + Keyring, O: Tell, T: Turns<S, O>>(
 ) -> Result<(), CatalogEnd>
     ensures prints { spec.PrintsOn (spec.past (S.shown shelves.old) news.old shelf.now)
         (spec.past (S.shown shelves.new) news.new shelf.now) (O.contents output.old) (O.contents output.new) result
-        (λ w. lines_of_path w shelf.now path.now) }
+        (λ w. lines_of_path w shelf.now path.now)
+        (spec.HaltsOrNone T.halts (λ w. lines_of_path w shelf.now path.now)) }
     ensures went { T.went turns.old turns.new shelves.old shelves.new }
     ensures ended { IsErrOf result CatalogEnd.Ended → T.ended turns.new }
     ensures fails { spec.FailsOn (O.writes output.old) (O.writes output.new) result }
@@ -162,7 +164,8 @@ fn print_account<S: Outlines + Keyring, O: Tell, T: Turns<S, O>>(
     ensures prints { (m : Option GoModule) → account.now.retracted.items ≡ map (is_retracted_by m) versions.now
         → spec.PrintsOn (spec.past (S.shown shelves.old) news.old shelf.now)
         (spec.past (S.shown shelves.new) news.new shelf.now) (O.contents output.old) (O.contents output.new) result
-        (λ w. lines_by w shelf.now path.now m account.now.latest versions.now) }
+        (λ w. lines_by w shelf.now path.now m account.now.latest versions.now)
+        (spec.HaltsOrLacks T.halts shelf.now path.now versions.now) }
     ensures went { T.went turns.old turns.new shelves.old shelves.new }
     ensures ended { IsErrOf result CatalogEnd.Ended → T.ended turns.new }
     ensures fails { spec.FailsOn (O.writes output.old) (O.writes output.new) result }
@@ -190,7 +193,8 @@ fn print_versions<S: Outlines + Keyring, O: Tell, T: Turns<S, O>>(
     ensures prints { (m : Option GoModule) → account.now.retracted.items ≡ map (is_retracted_by m) versions.now
         → spec.PrintsOn (spec.past (S.shown shelves.old) news.old shelf.now)
         (spec.past (S.shown shelves.new) news.new shelf.now) (O.contents output.old) (O.contents output.new) result
-        (λ w. lines_by w shelf.now path.now m account.now.latest versions.now) }
+        (λ w. lines_by w shelf.now path.now m account.now.latest versions.now)
+        (spec.HaltsOrLacks T.halts shelf.now path.now versions.now) }
     ensures went { T.went turns.old turns.new shelves.old shelves.new }
     ensures ended { IsErrOf result CatalogEnd.Ended → T.ended turns.new }
     ensures fails { spec.FailsOn (O.writes output.old) (O.writes output.new) result }
@@ -220,7 +224,8 @@ fn print_version<S: Outlines + Keyring, O: Tell, T: Turns<S, O>>(
 ) -> Result<(), CatalogEnd>
     ensures prints { spec.PrintsOn (spec.past (S.shown shelves.old) news.old shelf.now)
         (spec.past (S.shown shelves.new) news.new shelf.now) (O.contents output.old) (O.contents output.new) result
-        (λ w. line_at w shelf.now path.now version.now marks) }
+        (λ w. line_at w shelf.now path.now version.now marks)
+        (spec.HaltsOrUnseen T.halts shelf.now path.now version.now) }
     ensures went { T.went turns.old turns.new shelves.old shelves.new }
     ensures ended { IsErrOf result CatalogEnd.Ended → T.ended turns.new }
     ensures fails { spec.FailsOn (O.writes output.old) (O.writes output.new) result }
@@ -241,7 +246,7 @@ fn print_line<S: Shelves, O: Tell, T: Turns<S, O>>(
 ) -> Result<(), CatalogEnd>
     ensures prints { (s : List ℕ) → spec.PrintsOn (spec.past (S.shown shelves.old) news.old s)
         (spec.past (S.shown shelves.new) news.new s) (O.contents output.old) (O.contents output.new) result
-        (λ _. line.now) }
+        (λ _. line.now) (λ _. T.halts) }
     ensures went { T.went turns.old turns.new shelves.old shelves.new }
     ensures ended { IsErrOf result CatalogEnd.Ended → T.ended turns.new }
     ensures fails { spec.FailsOn (O.writes output.old) (O.writes output.new) result }

@@ -39,8 +39,8 @@ pub fn print_inventory<S: Outlines, O: Tell>(
 }
 
 /// Prints the catalog of a key, path by path, and returns true. `NoKey` if there is no such key: then nothing is
-/// printed. `Device` or `Memory` if the store meets a fault, `Io` if the output fails: then a beginning of the lines is
-/// printed, or all of them.
+/// printed. `Device` or `Memory` if the store meets a fault: then a beginning of the lines is printed, and not all of
+/// them, unless there are none. `Io` if the output fails: then a beginning is printed, or all of them.
 pub fn print_catalog<S: Outlines + Keyring, O: Tell>(
     alloc: Global,
     shelves: &mut S,

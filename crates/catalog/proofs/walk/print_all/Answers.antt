@@ -1,11 +1,12 @@
-use Rattle.std.proofs.Common.{◌∙◌, Err, List, ℕ, ap, arith, refl, subst, sym}
+use Rattle.std.proofs.Common.{◌∙◌, Err, List, ℕ, ap, arith, inr, refl, subst, sym}
 use Rattle.std.specs.FinSet as set
 use Rattle.std.specs.Prelude.{map as each, string_bytes}
 use Rattle.world.specs.Lines.{in_order}
 use Rattle.world.specs.Visible.{paths_seen}
 use Rattle.world.specs.World.{World}
 use Rattle.catalog.specs.Catalog.{lines_of_text, lines_seen}
-use Rattle.catalog.specs.Meanwhile.{FailsOn, PrintsOn, past, there}
+use Rattle.catalog.specs.Meanwhile.{FailsOn, HaltsOrNone, PrintsOn, past, there}
+use Rattle.catalog.proofs.Blank.{text_halts}
 use Rattle.catalog.proofs.Printed.{streams_first}
 use Rattle.catalog.proofs.ReadLemmas.{only_read}
 use Rattle.catalog.proofs.TurnLemmas.{fails_fault, fails_later, fault_on, on_end, on_failed, on_next, reads_there}
@@ -17,8 +18,8 @@ loop-text-init g c =
     let read = reads_there _ _ s _ (λ w. paths_seen w s) (λ w stands. g.met.S.Shelves.sound c.args.shelves.now w stands)
     c.in-Ok.ensures.reads in
     record {
-      streams = streams_first (λ w t. lines_of_text w s t) (λ w. lines_seen w s) in_order _ _ _ _ (λ w. paths_seen w s)
-          _ (λ w. refl)
+      streams = streams_first (λ w t. lines_of_text w s t) (λ w. lines_seen w s) (λ w. in_order (paths_seen w s))
+          in_order _ _ _ _ (λ w. paths_seen w s) _ (λ w. refl) (λ w. refl)
           (ap (each string_bytes) c.into_iter-text-iterator.ensures.into_iter_gives ∙ c.iter-text-items.ensures)
           (rw c.new-news.ensures read);
       went = g.met.T.Turns.rests _ _ _ (only_read _ _ _ _ c.in-Ok.ensures.reads);
@@ -30,9 +31,9 @@ loop-text-preserved g c =
     let s = c.args.shelf.now in
     let it = rw c.as_str.ensures.value at c.in_ok-print_text.ensures.prints in
     record {
-      streams = on_next (λ w t. lines_of_text w s t) (λ w. lines_seen w s) _ _ _ _ _ _
+      streams = on_next (λ w t. lines_of_text w s t) (λ w. lines_seen w s) (λ w. in_order (paths_seen w s)) _ _ _ _ _ _
           (string_bytes c.in-Some.text.now) _ (each string_bytes c.next.new.self)
-          (ap (each string_bytes) c.in-Some.ensures.steps) c.loop-text.invariant.streams (λ y z none. none) it;
+          (ap (each string_bytes) c.in-Some.ensures.steps) c.loop-text.invariant.streams _ (λ y z none. none) it;
       went = g.met.T.Turns.goes_on _ _ _ _ _ _ c.loop-text.invariant.went c.in_ok-print_text.ensures.went;
       later = omega (arith, c.loop-text.invariant.later, c.in_ok-print_text.ensures.fails.no_fewer);
     }
@@ -42,10 +43,13 @@ returns-in_err-print_text-clause-prints g c =
     let s = c.args.shelf.now in
     let it = rw c.as_str.ensures.value at c.in_err-print_text.ensures.prints in (
       c.print_text.new.news,
-      on_failed (λ w t. lines_of_text w s t) (λ w. lines_seen w s) _ _ _ _ _ _ (string_bytes c.in-Some.text.now) _
-          (each string_bytes c.next.new.self) (ap (each string_bytes) c.in-Some.ensures.steps)
-          c.loop-text.invariant.streams c.in_err-print_text.field-0.0 c.from_residual.result
-          c.from_residual.ensures.1 it,
+      on_failed (λ w t. lines_of_text w s t) (λ w. lines_seen w s) (λ w. in_order (paths_seen w s)) _ _ _ _ _ _
+          (string_bytes c.in-Some.text.now) _ (each string_bytes c.next.new.self)
+          (ap (each string_bytes) c.in-Some.ensures.steps) c.loop-text.invariant.streams _
+          c.in_err-print_text.field-0.0 c.from_residual.result c.from_residual.ensures.1
+          (HaltsOrNone g.T.Turns.halts (λ w. lines_seen w s))
+          (λ w here. text_halts g.T.Turns.halts w (g.met.S.Shelves.sound c.args.shelves.now w here.0) s
+          (string_bytes c.in-Some.text.now) (lines_seen w s)) it,
     )
 
 pub returns-in-Err-clause-prints : goal.returns-in-Err-clause-prints
@@ -57,8 +61,9 @@ returns-in-Err-clause-prints g c =
     c.in-Err.ensures.reads in (
       set.empty,
       subst (λ e. PrintsOn {T = Unit {0}} (there (g.S.Shelves.shown c.args.shelves.now) s)
-          (past (g.S.Shelves.shown c.paths.new.self) set.empty s) written written (Err e) lines)
-          (sym c.unread.ensures) (fault_on _ _ c.in-Err.fault (λ w. paths_seen w s) lines written read),
+          (past (g.S.Shelves.shown c.paths.new.self) set.empty s) written written (Err e) lines
+          (HaltsOrNone g.T.Turns.halts lines)) (sym c.unread.ensures)
+          (fault_on _ _ c.in-Err.fault (λ w. paths_seen w s) lines _ written (λ w none. inr none) read),
     )
 
 pub returns-in-Err-clause-went : goal.returns-in-Err-clause-went
@@ -82,6 +87,7 @@ pub returns-clause-prints : goal.returns-clause-prints
 returns-clause-prints g c =
     let s = c.args.shelf.now in (
       c.loop-text.news,
-      on_end (λ w t. lines_of_text w s t) (λ w. lines_seen w s) _ _ _ _ (each string_bytes c.loop-text.text-iterator)
+      on_end (λ w t. lines_of_text w s t) (λ w. lines_seen w s) (λ w. in_order (paths_seen w s)) _ _ _ _ _
+          (each string_bytes c.loop-text.text-iterator)
           (ap (each string_bytes) c.in-None.ensures.steps.0) c.loop-text.invariant.streams,
     )

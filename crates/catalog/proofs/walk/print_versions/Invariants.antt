@@ -14,7 +14,7 @@ invariant-loop-version g l =
       index : l.index ≡ l.version-index;
       streams : (m : Option GoModule) → l.account.retracted.items ≡ map (is_retracted_by m) l.versions
           → Streams (λ w v. line_at w l.shelf l.path v (marks_of m l.account.latest v))
-          (λ w. lines_by w l.shelf l.path m l.account.latest l.versions)
+          (λ w. lines_by w l.shelf l.path m l.account.latest l.versions) (λ w. l.versions)
           (past (s.shown l.fn.shelves) l.fn.news l.shelf) (past (s.shown l.shelves) l.news l.shelf)
           (g.O.Write.contents l.fn.output) (g.O.Write.contents l.output) (drop l.version-index l.versions);
       went : g.T.Turns.went l.fn.turns l.turns l.fn.shelves l.shelves;

@@ -7,5 +7,6 @@ returns g c = record {
   stays = λ s. stays_itself _;
   went = as_it_was _;
   ended = λ failed. absurd (let e = failed in cc);
+  halts = tt;
   output = tt;
 }

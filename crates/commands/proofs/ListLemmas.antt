@@ -1,7 +1,7 @@
 -- An import of a list in a file.
-use Rattle.std.proofs.Common.{◌≡◌, ℕ, List, Bool, Option, Result, Ok, Err, ◌++◌, ◌∙◌, refl, ap, subst, inl, inr}
+use Rattle.std.proofs.Common.{◌≡◌, ℕ, List, Bool, Option, Result, Ok, Err, ◌++◌, ◌∙◌, refl, ap, subst, inl}
 use Rattle.world.specs.Store.{Shown}
-use Rattle.commands.specs.ImportFile.{ImportsBytes, ImportsFile, list_limit}
+use Rattle.commands.specs.ImportFile.{ImportsBytes, ImportsFile, ImportsNone, list_limit}
 use Rattle.commands.specs.Sources.{Adds, FileDone, ReadsFront}
 use Rattle.commands.specs.declared.front.Front.{Front}
 use Rattle.commands.specs.declared.refusal.CommandRefusal.{CommandRefusal}
@@ -25,8 +25,8 @@ module _ {S : Type 0} (shown : S → Shown) (old new : S) (key list : List ℕ) 
 
   -- the list could not be opened
   pub list_unopened : (fault : SourceFault) → Adds before after (ReadsFront list_limit list (Err fault)) → new ≡ old
-      → written_new ≡ written → ImportsFile shown old new key list before after written written_new (Err Io)
-  list_unopened fault adds store output = inr (record {
+      → written_new ≡ written → ImportsNone shown old new key list before after written written_new (Err Io)
+  list_unopened fault adds store output = record {
     fault = fault;
     deed = adds.are.0;
     read = adds.are.2;
@@ -34,4 +34,4 @@ module _ {S : Type 0} (shown : S → Shown) (old new : S) (key list : List ℕ) 
     store = store;
     output = output;
     tells = refl;
-  })
+  }

@@ -13,7 +13,7 @@ use Rattle.world.specs.Store.{Shown}
 use Rattle.world.specs.declared.entry.Right.{Right}
 use Rattle.orders.specs.declared.command.RegistryCommand.{RegistryCommand}
 use Rattle.commands.specs.Ending.{Registers, RevokesNamed}
-use Rattle.commands.specs.ImportFile.{ImportsFile}
+use Rattle.commands.specs.ImportFile.{FailsUnopenedOrByOutput, ImportsFile}
 use Rattle.commands.specs.NewKey.{AddsNew, HasNoKey}
 use Rattle.commands.specs.Opening.{AnswersAll, Breaks}
 use Rattle.commands.specs.Printed.{FailsByOutput, FailsEarlyOrByOutput, FailsUnprinted}
@@ -195,11 +195,12 @@ PrintsKeyFor (action.AddNew shelf right) written written_new writes writes_new r
     FailsUnprinted written written_new writes writes_new result
 PrintsKeyFor other written written_new writes writes_new result = Unit {0}
 
--- the calls of the input and of the output, and the bytes that were drawn, at a moment
+-- the calls of the input and of the output, the bytes that were drawn, and the files that were read, at a moment
 pub record Calls : Type 0 where
   pub reads : Reads
   pub writes : Writes
   pub drawn : Drawn
+  pub files : List FileDone
 
 -- a command does not end with `Io`
 abbrev pub NeverIo : {T : Type 0} → Result T CommandRefusal → Type 0
@@ -212,18 +213,17 @@ module _ {S N : Type 0} (shown : S → Shown) (old new : Moment S N) (calls call
   FailsByStream = OnErr result (Breaks (λ failure. ServesAllHeard (shown old.store) (shown new.store) old.came new.came
       old.written new.written (Err failure)) calls.reads calls_new.reads calls.writes calls_new.writes)
 
-  -- a publish or an import ended with `Io` because its output failed, or before it did anything
-  abbrev pub FailsEarly : Type 0
-  FailsEarly =
-      FailsEarlyOrByOutput old.store new.store old.written new.written calls.writes calls_new.writes result
-
-  -- Why an action ended with `Io`. One that prints what it reads did so because its output failed. A registry command
-  -- never does. Of a `serve`, `ServesFor` says why it failed.
+  -- Why an action ended with `Io`. A publish did so because its output failed, or before it did anything, and an import
+  -- because its output failed, or its list was not opened. One that prints what it reads did so because its output
+  -- failed. A registry command never does. Of a `serve`, `ServesFor` says why it failed.
   abbrev pub CauseOf : Action → Type 0
   CauseOf (action.AddNew shelf right) =
       IfErr result (λ e. e ≡ Io → HasNoKey calls.drawn calls_new.drawn calls.writes calls_new.writes)
-  CauseOf (action.Publish words files) = FailsEarly
-  CauseOf (action.Import key list) = FailsEarly
+  CauseOf (action.Publish words files) =
+      FailsEarlyOrByOutput old.store new.store old.written new.written calls.writes calls_new.writes result
+  CauseOf (action.Import key list) =
+      FailsUnopenedOrByOutput shown old.store new.store key.now list.now calls.files calls_new.files old.written
+      new.written calls.writes calls_new.writes result
   CauseOf (action.Inventory key) = FailsByOutput calls.writes calls_new.writes result
   CauseOf (action.Catalog key) = FailsByOutput calls.writes calls_new.writes result
   CauseOf (action.Requires version) = FailsByOutput calls.writes calls_new.writes result

@@ -1,11 +1,13 @@
 -- What an import of a list in a file does.
 use Rattle.std.specs.Prelude.{ℕ, ◌≡◌, ◌⊎◌, ◌-◌, ◌^◌, ◌++◌, List, [], ◌∷◌, Bool, false, Option, Some, Result, Ok}
-use Rattle.std.specs.Prelude.{Err}
+use Rattle.std.specs.Prelude.{Err, IfErr}
 use Rattle.engine.specs.declared.fault.Io.{Io as Failure}
 use Rattle.histories.specs.Account.{Account}
+use Rattle.histories.specs.Calls.{Writes}
 use Rattle.world.specs.Store.{Shown}
 use Rattle.commands.specs.Front.{is_whole}
 use Rattle.commands.specs.Import.{Imports}
+use Rattle.commands.specs.Printed.{HasFailed}
 use Rattle.commands.specs.Sources.{FileDone, IsFrontBy}
 use Rattle.commands.specs.declared.front.Front.{Front}
 use Rattle.commands.specs.declared.import.Ending.{Ending}
@@ -53,6 +55,14 @@ module _ {S : Type 0} (shown : S → Shown) (old new : S) (key list : List ℕ) 
     pub store : new ≡ old
     pub output : written_new ≡ written
     pub tells : result ≡ Err Io
+
+  -- An import that ended with `Io` did so because its list could not be opened, and then nothing was done, or because a
+  -- call of its output failed.
+  abbrev pub FailsUnopenedOrByOutput : List FileDone → List FileDone → Option (List ℕ) → Option (List ℕ) → Writes
+      → Writes → Result Bool CommandRefusal → Type 0
+  FailsUnopenedOrByOutput before after written written_new writes writes_new result =
+      IfErr result (λ e. e ≡ Io
+      → ImportsNone before after written written_new result ⊎ HasFailed writes writes_new)
 
   -- a list was imported, or it could not be opened and nothing was done
   abbrev pub ImportsFile : List FileDone → List FileDone → Option (List ℕ) → Option (List ℕ)

@@ -206,8 +206,18 @@ pub fn act_on<
           came = I.account input.new;
           written = O.contents output.new;
         })
-        (record { reads = I.reads input.old; writes = O.writes output.old; drawn = B.drawn outside.old.random })
-        (record { reads = I.reads input.new; writes = O.writes output.new; drawn = B.drawn outside.new.random })
+        (record {
+          reads = I.reads input.old;
+          writes = O.writes output.old;
+          drawn = B.drawn outside.old.random;
+          files = F.history outside.old.files;
+        })
+        (record {
+          reads = I.reads input.new;
+          writes = O.writes output.new;
+          drawn = B.drawn outside.new.random;
+          files = F.history outside.new.files;
+        })
         result action.now }
 {
     match action {
@@ -295,8 +305,18 @@ fn act_alone<
           came = I.account input.new;
           written = O.contents output.new;
         })
-        (record { reads = I.reads input.old; writes = O.writes output.old; drawn = B.drawn outside.old.random })
-        (record { reads = I.reads input.new; writes = O.writes output.new; drawn = B.drawn outside.new.random })
+        (record {
+          reads = I.reads input.old;
+          writes = O.writes output.old;
+          drawn = B.drawn outside.old.random;
+          files = F.history outside.old.files;
+        })
+        (record {
+          reads = I.reads input.new;
+          writes = O.writes output.new;
+          drawn = B.drawn outside.new.random;
+          files = F.history outside.new.files;
+        })
         result action.now }
 {
     match action {

@@ -1,7 +1,7 @@
 //! `import` of a list in a file.
 ghost use Rattle.std.specs.Prelude.{◌≡◌, [], OnOk, Some};
 ghost use Rattle.commands.specs.ImportFile as spec;
-ghost use Rattle.commands.specs.Printed.{FailsByOutput, FailsEarlyOrByOutput};
+ghost use Rattle.commands.specs.Printed.{FailsByOutput};
 
 use crate::front::Front;
 use crate::import::{Ending, import};
@@ -51,9 +51,9 @@ pub fn import_file<S: Shelves, F: Sources, O: Tell>(
 ) -> Result<bool, CommandRefusal>
     ensures imports { spec.ImportsFile S.shown shelves.old shelves.new key.now list.now
         (F.history sources.old) (F.history sources.new) (O.contents output.old) (O.contents output.new) result }
-    // It ends with `Io` only if a call of the output failed, or before it did anything, because the list can't be
-    // opened.
-    ensures cause { FailsEarlyOrByOutput shelves.old shelves.new (O.contents output.old) (O.contents output.new)
+    // It ends with `Io` only if a call of the output failed, or the list was not opened.
+    ensures cause { spec.FailsUnopenedOrByOutput S.shown shelves.old shelves.new key.now list.now
+        (F.history sources.old) (F.history sources.new) (O.contents output.old) (O.contents output.new)
         (O.writes output.old) (O.writes output.new) result }
     // What was printed is flushed.
     ensures flushed { (O.writes output.old).unflushed ≡ [] → OnOk result ((O.writes output.new).unflushed ≡ []) }

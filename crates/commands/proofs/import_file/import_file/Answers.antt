@@ -1,4 +1,4 @@
-use Rattle.std.proofs.Common.{refl}
+use Rattle.std.proofs.Common.{inl, inr, refl}
 use Rattle.commands.proofs.ListLemmas.{list_read, list_unopened}
 use Rattle.commands.proofs.import_file.import_file.Goals as goal
 
@@ -9,5 +9,10 @@ returns-in-Ok-clause-imports g c =
 
 pub returns-in-Err-clause-imports : goal.returns-in-Err-clause-imports
 returns-in-Err-clause-imports g c =
-    list_unopened g.S.Shelves.shown c.args.shelves.now c.args.shelves.now c.args.key.now c.args.list.now _
-    (g.F.Sources.history c.args.sources.now) _ _ _ c.in-Err.field-0 c.in-Err.ensures refl refl
+    inr (list_unopened g.S.Shelves.shown c.args.shelves.now c.args.shelves.now c.args.key.now c.args.list.now _
+    (g.F.Sources.history c.args.sources.now) _ _ _ c.in-Err.field-0 c.in-Err.ensures refl refl)
+
+pub returns-in-Err-clause-cause : goal.returns-in-Err-clause-cause
+returns-in-Err-clause-cause g c = λ _.
+    inl (list_unopened g.S.Shelves.shown c.args.shelves.now c.args.shelves.now c.args.key.now c.args.list.now _
+    (g.F.Sources.history c.args.sources.now) _ _ _ c.in-Err.field-0 c.in-Err.ensures refl refl)

@@ -1,5 +1,5 @@
 -- What one run of the program does.
-use Rattle.std.specs.Prelude.{ℕ, List, ◌≡◌, ◌⊎◌, ◌++◌, codes, Bool, true, false, Option, Result, Err}
+use Rattle.std.specs.Prelude.{ℕ, List, [], ◌∷◌, ◌≡◌, ◌==◌, ◌⊎◌, ◌++◌, codes, Bool, true, false, Option, Result, Err}
 use Rattle.histories.specs.Account.{Account}
 use Rattle.histories.specs.Calls.{Writes}
 use Rattle.clap.specs.declared.error.kind.ErrorKind.{ErrorKind}
@@ -54,6 +54,11 @@ without_key = codes "; without a key, each request gets a 404\n"
 abbrev pub line_end : List ℕ
 line_end = codes "\n"
 
+-- the path begins with a slash
+abbrev pub is_absolute : List ℕ → Bool
+is_absolute [] = false
+is_absolute (b ∷ bs) = b == 47
+
 -- the line that says that a log stands where no store is, at the name of a new one
 abbrev pub lone_log_line : List ℕ → List ℕ
 lone_log_line to = to ++ codes "-wal is a log without its store: move it away, or name another file\n"
@@ -93,12 +98,17 @@ module _ {P : Type 0} (says : Sayings P) (runner : P) (errors errors_new : Optio
   Warns (OnStore db (Import key list)) = TellsNewFile db.now
   Warns other = errors_new ≡ errors
 
+  -- the same for a copy, if its path is absolute; nothing was written of another path, which another process reads
+  abbrev pub TellsOfCopy : Bool → List ℕ → Type 0
+  TellsOfCopy true to = TellsLoneLog to
+  TellsOfCopy false to = errors_new ≡ errors
+
   -- After a command that was refused because its new store is not empty, the line was written if a log stands alone at
-  -- its name; for a copy, whose path another process reads, perhaps. Otherwise nothing was written.
+  -- its name; for a copy only if that is absolute. Otherwise nothing was written.
   abbrev pub Explains : Command → Result Bool CommandRefusal → Type 0
   Explains (Extract db teams to) (Err NotEmpty) = TellsLoneLog to.now
   Explains (Migrate from to) (Err NotEmpty) = TellsLoneLog to.now
-  Explains (Send control (Copy to)) (Err NotEmpty) = (errors_new ≡ errors) ⊎ TellsLoneLog to.now
+  Explains (Send control (Copy to)) (Err NotEmpty) = TellsOfCopy (is_absolute to.now) to.now
   Explains command told = errors_new ≡ errors
 
 -- `words` are the words after the name of the program

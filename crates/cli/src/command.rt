@@ -5,7 +5,7 @@ ghost use Rattle.commands.specs.Exit.{IsSilent, Says, status_of};
 ghost use Rattle.args.specs.Table.{texts};
 ghost use Rattle.socket.specs.Connections.{both};
 ghost use Rattle.cli.specs.Run.{EndsShown, Exits, Explains, RefusesWords, SparesOutput, TellsLoneLog, TellsNew, Warns};
-ghost use Rattle.cli.specs.Run.{new_store};
+ghost use Rattle.cli.specs.Run.{TellsOfCopy, is_absolute, new_store};
 
 use crate::asked::command_of;
 use crate::system::{Runner, SystemStores};
@@ -146,12 +146,22 @@ fn explain<P: Runner, E: Tell>(
         Command::Extract { to, .. } | Command::Migrate { to, .. } => {
             tell_lone_log(runner, to, errors);
         }
-        // the server takes a path from another folder than this process
         Command::Send {
             order: Order::Copy(to),
             ..
-        } if to.starts_with('/') => tell_lone_log(runner, to, errors),
+        } => tell_of_copy(runner, to, errors),
         _ => {}
+    }
+}
+
+/// Writes a line on `errors` if a log stands alone at the path of a copy, and none if the path is relative: the server
+/// takes that from another folder than this process.
+fn tell_of_copy<P: Runner, E: Tell>(runner: &P, to: &str, errors: &mut E)
+    ensures { TellsOfCopy P.says runner.now (both E.contents E.writes errors.old)
+        (both E.contents E.writes errors.new) (is_absolute to.now) to.now }
+{
+    if to.starts_with('/') {
+        tell_lone_log(runner, to, errors);
     }
 }
 

@@ -95,6 +95,11 @@ class TestFiles:
         wanted = b"1 200 already published\n2 201 published\n"
         assert run(f"import --db f.db --key {KEY} --list list.csv".split()) == (0, wanted, "")
 
+    @pytest.mark.parametrize("line", ["--help", "--version", "serve --help"])
+    def test_help_whose_output_fails(self, line: str) -> None:
+        with open("/dev/full", "wb") as full:
+            assert word(line, output=full) == "io"
+
     def test_a_port_that_is_taken(self) -> None:
         with socket.create_server(("127.0.0.1", 0)) as taken:
             assert word(f"serve --db f.db --port {taken.getsockname()[1]} --connections 0") == "io"

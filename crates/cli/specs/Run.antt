@@ -1,5 +1,6 @@
 -- What one run of the program does.
 use Rattle.std.specs.Prelude.{ℕ, List, [], ◌∷◌, ◌≡◌, ◌==◌, ◌⊎◌, ◌++◌, codes, Bool, true, false, Option, Result, Err}
+use Rattle.std.specs.Prelude.{MatchResult}
 use Rattle.histories.specs.Account.{Account}
 use Rattle.histories.specs.Calls.{Writes}
 use Rattle.clap.specs.declared.error.kind.ErrorKind.{ErrorKind}
@@ -7,7 +8,7 @@ use Rattle.clap.specs.declared.error.kind.ErrorKind.TheVariants.{DisplayHelp, Di
 use Rattle.commands.specs.declared.refusal.CommandRefusal.{CommandRefusal}
 use Rattle.commands.specs.declared.refusal.CommandRefusal.TheVariants.{Io, Memory, NotEmpty}
 use Rattle.commands.specs.Exit.{exit_of, status_of, IsSilent, Says}
-use Rattle.commands.specs.Printed.{PrintsUnlessFailed}
+use Rattle.commands.specs.Printed.{HasFailed, PrintsUnlessFailed}
 use Rattle.commands.specs.declared.action.Action.TheVariants.{AddNew, Import, Publish, Register}
 use Rattle.commands.specs.declared.action.Action.TheVariants.{RevokeByFingerprint, Serve}
 use Rattle.commands.specs.declared.exit.Exit.{Exit}
@@ -17,13 +18,26 @@ use Rattle.runner.specs.declared.Command.{Command}
 use Rattle.runner.specs.declared.Command.TheVariants.{Send, Extract, Migrate, OnStore}
 use Rattle.cli.specs.Asks.{Asks, IsShownFor}
 
--- How a run ends that shows the parser's text in place of a command, by the text's kind: well for help and the version,
--- or with `Io` if they can't be written; with `Memory` if memory ran out; and with bad usage for every other text.
-abbrev pub EndsShown : ErrorKind → Exit → Type 0
-EndsShown DisplayHelp ended = (ended ≡ Done) ⊎ (ended ≡ Refused Io)
-EndsShown DisplayVersion ended = (ended ≡ Done) ⊎ (ended ≡ Refused Io)
-EndsShown OutOfMemory ended = ended ≡ Refused Memory
-EndsShown other ended = ended ≡ BadUsage
+-- the calls to an output, before and after
+module _ (calls calls_new : Writes) where
+  -- no call failed, or the first that did ended the function
+  abbrev pub FailsAtOnce : {T E : Type 0} → Result T E → Type 0
+  FailsAtOnce result = MatchResult result (λ _. calls_new.failed ≡ calls.failed) (λ _. HasFailed calls calls_new)
+
+  -- How a run ends that prints the parser's text there: well once no call failed and what was printed is flushed, or
+  -- with `Io` because one failed.
+  abbrev pub EndsPrinted : Exit → Type 0
+  EndsPrinted Done = (calls_new.failed ≡ calls.failed) × (calls_new.unflushed ≡ [])
+  EndsPrinted (Refused Io) = HasFailed calls calls_new
+  EndsPrinted other = ⊥
+
+  -- How a run ends that shows the parser's text in place of a command, by the text's kind: as one that prints it for
+  -- help and the version; with `Memory` if memory ran out; and with bad usage for every other text.
+  abbrev pub EndsShown : ErrorKind → Exit → Type 0
+  EndsShown DisplayHelp ended = EndsPrinted ended
+  EndsShown DisplayVersion ended = EndsPrinted ended
+  EndsShown OutOfMemory ended = ended ≡ Refused Memory
+  EndsShown other ended = ended ≡ BadUsage
 
 -- only help and the version are shown on the output
 abbrev pub SparesOutput : ErrorKind → Option (List ℕ) → Option (List ℕ) → Type 0
@@ -113,7 +127,7 @@ module _ {P : Type 0} (says : Sayings P) (runner : P) (errors errors_new : Optio
 
 -- `words` are the words after the name of the program
 module _ {P : Type 0} (ran : Ran P) (sayings : Sayings P) (words : List (List ℕ)) (old new : P) (came came_new : Account)
-    (written written_new : Option (List ℕ)) where
+    (written written_new : Option (List ℕ)) (calls calls_new : Writes) where
   -- the command that the words ask for was run, once, and the run ends by its result
   pub record RunsCommand (errors errors_new : Option (List ℕ) × Writes) (ended : Exit) : Type 0 where
     pub command : Command
@@ -130,7 +144,7 @@ module _ {P : Type 0} (ran : Ran P) (sayings : Sayings P) (words : List (List �
   pub record ShowsText (errors errors_new : Option (List ℕ) × Writes) (ended : Exit) : Type 0 where
     pub kind : ErrorKind
     pub why : IsShownFor words kind
-    pub ends : EndsShown kind ended
+    pub ends : EndsShown calls calls_new kind ended
     pub idle : new ≡ old
     pub input : came_new ≡ came
     pub output : SparesOutput kind written written_new

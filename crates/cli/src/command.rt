@@ -8,6 +8,7 @@ ghost use Rattle.cli.specs.Run.{EndsShown, Exits, Explains, RefusesWords, Spares
 ghost use Rattle.cli.specs.Run.{TellsOfCopy, is_absolute, new_store};
 
 use crate::asked::command_of;
+use crate::parser_text::print_text;
 use crate::system::{Runner, SystemStores};
 use crate::version::VERSION;
 use args::{matches_of, no_form};
@@ -41,7 +42,7 @@ pub fn command<'a, I: Hear, O: Tell, E: Tell>(
 ) -> u8
     ensures { Exits ⟦<SystemStores<'a> as Runner>⟧.ran ⟦<SystemStores<'a> as Runner>⟧.says (texts words.now)
         stores.old stores.new (I.account input.old) (I.account input.new)
-        (O.contents output.old) (O.contents output.new)
+        (O.contents output.old) (O.contents output.new) (O.writes output.old) (O.writes output.new)
         (both E.contents E.writes errors.old) (both E.contents E.writes errors.new) result }
 {
     command_by(stores.alloc(), stores, words, input, output, errors)
@@ -59,6 +60,7 @@ pub fn command_by<P: Runner, I: Hear, O: Tell, E: Tell>(
 ) -> u8
     ensures { Exits P.ran P.says (texts words.now) runner.old runner.new
         (I.account input.old) (I.account input.new) (O.contents output.old) (O.contents output.new)
+        (O.writes output.old) (O.writes output.new)
         (both E.contents E.writes errors.old) (both E.contents E.writes errors.new) result }
 {
     let matches = match matches_of(alloc, VERSION, words) {
@@ -180,15 +182,15 @@ fn tell_lone_log<P: Runner, E: Tell>(runner: &P, to: &str, errors: &mut E)
 }
 
 /// Shows the parser's text, and returns how the run ended: help and the version on the output, and what is wrong with
-/// the words on `errors`. If the output fails, the run ends with `goshelf: io`.
+/// the words on `errors`. If the output fails, the run ends with `goshelf: io`; it ends well once the text is flushed.
 fn show<O: Tell, E: Tell>(error: clap::Error, output: &mut O, errors: &mut E) -> Exit
-    ensures ends { EndsShown (kind_of error) result }
+    ensures ends { EndsShown (O.writes output.old) (O.writes output.new) (kind_of error) result }
     ensures output { SparesOutput (kind_of error) (O.contents output.old) (O.contents output.new) }
     ensures silent { IsSilent (both E.contents E.writes errors.old) (both E.contents E.writes errors.new) result }
 {
     match error.kind() {
         ErrorKind::OutOfMemory => Exit::Refused(CommandRefusal::Memory),
-        ErrorKind::DisplayHelp | ErrorKind::DisplayVersion => match write!(output, "{error}") {
+        ErrorKind::DisplayHelp | ErrorKind::DisplayVersion => match print_text(&error, output) {
             Ok(()) => Exit::Done,
             Err(_) => Exit::Refused(CommandRefusal::Io),
         },

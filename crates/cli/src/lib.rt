@@ -4,5 +4,6 @@
 
 mod asked;
 pub mod command;
+mod parser_text;
 pub mod system;
 mod version;

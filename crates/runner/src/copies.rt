@@ -1,5 +1,6 @@
-//! Copies of the store of a file while it is served, catalogs of it, counts of its versions, and its size. That a copy
-//! opens no other file than by `StoreFiles`, and the sizes, are read and tested, and not proved.
+//! Copies of the store of a file while it is served, catalogs of it, counts of its versions, and its sizes. Nothing
+//! here has a handle of the system, and only a copy that is begun gives files by which a store can be opened. So a
+//! catalog, a count and a ping open none.
 
 ghost use Rattle.std.specs.Prelude.{◌≡◌, ◌≢◌, ◌⊎◌, [], Err, IfErr, IfOk, IsErrOf};
 ghost use Rattle.control.specs.Copying.{IsOnlyRead};
@@ -11,11 +12,9 @@ ghost use Rattle.world.specs.Store.{HasCause};
 
 use crate::file_checks::{FileChecks, target_refusal};
 use crate::found::{ClosedFile, Found, OpenedStore};
-use crate::host::SystemHost;
 use crate::slice_pace::SlicePace;
 use catalog::PrintError;
 use catalog::between::{CatalogEnd, print_between};
-use commands::files::size_of_file;
 use control::{BegunCopy, CatalogRefusal, Copies, CopyRefusal, Metrics};
 use histories::{ClockFace, ResetDeadline};
 use interleave::between::Between;
@@ -23,7 +22,6 @@ use slices::pace::Pace;
 use sqlite::Alter;
 use std::alloc::Global;
 use store::between::CopyEnd;
-use store::file_name::log_name;
 use store::store::SqlShelves;
 use store_files::files::{StoreFiles, Use};
 use store_files::refusal::StoreRefusal;
@@ -32,35 +30,50 @@ use world::shelves::Shelves;
 
 /// Files by which copies open their stores.
 pub(crate) trait CopyTargets: StoreFiles<OpenedStore, ClosedFile> + Drop {
-    /// Returns such files, to which nothing was done.
-    fn afresh(&self) -> Self
+    /// Returns such files for a copy that is begun, to which nothing was done.
+    fn afresh(&self, begun: BegunCopy<'_>) -> Self
         ensures { Self.history result ≡ [] };
+}
+
+/// The sizes of a file and its log, as the system reports them. None of these calls opens a file.
+pub(crate) trait FileSizes {
+    ghost use Rattle.std.specs.Prelude.{ℕ, List, Option};
+
+    /// The size that is reported of the file of this name.
+    ghost sized: { Self → List ℕ → Option ℕ → Type 0 };
+
+    /// The size that is reported of the log of the store at this path.
+    ghost log_sized: { Self → List ℕ → Option ℕ → Type 0 };
+
+    /// Returns how many bytes a file has. None if the system reports nothing, or for a folder or a device.
+    fn size(&self, name: &str) -> Option<u64>
+        ensures { sized self.now name.now result };
+
+    /// Returns how many bytes the log of the store at a path has. None if the system reports nothing, or memory runs
+    /// out for its name.
+    fn log_size(&self, path: &str) -> Option<u64>
+        ensures { log_sized self.now path.now result };
 }
 
 /// Copies the served store of a file into other files, prints catalogs of it, and looks at the sizes of the file and
 /// its log.
 #[derive(Drop)]
-pub(crate) struct FileCopies<'a, G> {
-    pub host: SystemHost<'a>,
+pub(crate) struct FileCopies<'a, C, L, G> {
+    pub clock: &'a C,
+    pub checks: L,
     /// The file of the served store.
     pub db: &'a str,
-    /// By such files each copy opens its store.
+    /// Each copy that is begun has such files, and opens its store by them.
     pub targets: G,
 }
 
-impl<'a, G> FileCopies<'a, G> {
-    /// Returns how many bytes the log of the served store has, as the system reports it. None if it reports nothing, or
-    /// memory runs out for the name.
-    fn log_size(&self) -> Option<u64> {
-        let rt = self.host.rt;
-        match log_name(rt, self.db) {
-            Ok(log) => size_of_file(rt, log.as_str()),
-            Err(_) => None,
-        }
-    }
-}
-
-impl<'a, S: Alter, G: CopyTargets> Copies<SqlShelves<S>> for FileCopies<'a, G> {
+impl<'a, S, C, L, G> Copies<SqlShelves<S>> for FileCopies<'a, C, L, G>
+where
+    S: Alter,
+    C: ClockFace,
+    L: FileChecks + FileSizes,
+    G: CopyTargets,
+{
     ghost use Rattle.std.specs.Prelude.{◌≡◌, None};
     ghost use Rattle.std.proofs.Common.{inr, refl};
     ghost use Rattle.runner.specs.Copies.{CountsIn, Makes};
@@ -71,8 +84,7 @@ impl<'a, S: Alter, G: CopyTargets> Copies<SqlShelves<S>> for FileCopies<'a, G> {
 
     ghost counted = { CountsIn ⟦<SqlShelves<S> as Shelves>⟧.shown };
 
-    /// It keeps no time of a copy, does not know of one that is being made, and counts no shelf. Nothing is known of
-    /// the sizes that the system reports.
+    /// It keeps no time of a copy, does not know of one that is being made, and counts no shelf.
     ghost figured = { λ _ f. (f.copied ≡ None) × (f.copying ≡ None) × (f.traffic ≡ None) };
 
     ghost name = { λ c. c.db.now };
@@ -87,14 +99,15 @@ impl<'a, S: Alter, G: CopyTargets> Copies<SqlShelves<S>> for FileCopies<'a, G> {
         begun: BegunCopy<'_>,
         between: &mut B,
     ) -> Result<(), CopyRefusal> {
-        let mut targets = self.targets.afresh();
+        let path = begun.path();
+        let mut targets = self.targets.afresh(begun);
         copy_to(
-            self.host.rt,
-            &self.host,
+            self.clock,
+            &self.checks,
             &mut targets,
             self.db,
             shelves,
-            begun.path(),
+            path,
             between,
         )
     }
@@ -114,10 +127,15 @@ impl<'a, S: Alter, G: CopyTargets> Copies<SqlShelves<S>> for FileCopies<'a, G> {
         count_in(shelves)
     }
 
-    fn figures<'s>(&self, _shelves: &'s SqlShelves<S>) -> Metrics<'s> {
+    fn figures<'s>(&self, _shelves: &'s SqlShelves<S>) -> Metrics<'s>
+        ensures figured { (result.copied ≡ None) × (result.copying ≡ None) × (result.traffic ≡ None) }
+        // The sizes are those that are reported of the file of the served store and of its log.
+        ensures size { L.sized self.now.checks self.now.db.now result.bytes }
+        ensures log { L.log_sized self.now.checks self.now.db.now result.log }
+    {
         Metrics {
-            bytes: size_of_file(self.host.rt, self.db),
-            log: self.log_size(),
+            bytes: self.checks.size(self.db),
+            log: self.checks.log_size(self.db),
             copied: None,
             copying: None,
             traffic: None,

@@ -4,7 +4,7 @@ ghost use Rattle.runner.specs.Copies.{CountsIn, Makes};
 ghost use Rattle.socket.specs.Connections.{both};
 
 use crate::beside::{check_name, has_lone_log, has_lone_log_of_name, sync_log};
-use crate::copies::FileCopies;
+use crate::copies::{FileCopies, FileSizes};
 use crate::extract::extract_file;
 use crate::file_checks::FileChecks;
 use crate::found::{ClosedFile, Found, FoundTables, OpenedStore};
@@ -13,7 +13,7 @@ use crate::older_files::OlderFiles;
 use crate::reserve::SystemReserve;
 use crate::system::SystemStoreFiles;
 use commands::action::{Action, Outside, act_on};
-use commands::files::{is_empty_file, is_missing_or_empty, is_same_file};
+use commands::files::{is_empty_file, is_missing_or_empty, is_same_file, size_of_file};
 use commands::import_progress::ImportProgress;
 use commands::moment::SystemWallClock;
 use commands::new_key::order_new_at;
@@ -30,6 +30,7 @@ use sqlite::Alter;
 use sqlite_trees::store::Store;
 use std::alloc::Global;
 use std::rt::HostRuntime;
+use store::file_name::log_name;
 use store::files::PageRoom;
 use store::store::SqlShelves;
 use store_files::files::StoreFiles;
@@ -157,6 +158,24 @@ impl<'a> FileChecks for SystemHost<'a> {
     fn line(&self, verb: &'static str) -> Option<StderrLine<'_>> {
         let line = StderrLine::on_stderr(self.rt, verb);
         if line.is_shown() { Some(line) } else { None }
+    }
+}
+
+/// What the system reports may change at any time, so nothing is known of it.
+impl<'a> FileSizes for SystemHost<'a> {
+    ghost sized = { λ _ _ _. Unit {0} };
+
+    ghost log_sized = { λ _ _ _. Unit {0} };
+
+    fn size(&self, name: &str) -> Option<u64> {
+        size_of_file(self.rt, name)
+    }
+
+    fn log_size(&self, path: &str) -> Option<u64> {
+        match log_name(self.rt, path) {
+            Ok(log) => size_of_file(self.rt, log.as_str()),
+            Err(_) => None,
+        }
     }
 }
 
@@ -314,7 +333,8 @@ fn act_in<
         result action.now }
 {
     let copies = FileCopies {
-        host: SystemHost { rt },
+        clock: rt,
+        checks: SystemHost { rt },
         db: name,
         targets: SystemStoreFiles::new(rt, PageRoom::Slice),
     };

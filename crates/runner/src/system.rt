@@ -14,6 +14,7 @@ use crate::open::open_for;
 use crate::opening::opening_line;
 use crate::temporary_files::TemporaryFiles;
 use commands::files::holds_bytes;
+use control::BegunCopy;
 use sqlite::Start;
 use sqlite_trees::store::Store;
 use std::rt::HostRuntime;
@@ -99,7 +100,7 @@ impl<'a> StoreFiles<OpenedStore, ClosedFile> for SystemStoreFiles<'a> {
 }
 
 impl<'a> CopyTargets for SystemStoreFiles<'a> {
-    fn afresh(&self) -> SystemStoreFiles<'a> {
+    fn afresh(&self, _begun: BegunCopy<'_>) -> SystemStoreFiles<'a> {
         SystemStoreFiles::new(self.rt, self.room)
     }
 }

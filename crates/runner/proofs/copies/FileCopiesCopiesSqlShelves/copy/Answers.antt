@@ -6,5 +6,5 @@ pub returns-clause-came : goal.returns-clause-came
 returns-clause-came g c = inl (
   c.copy_to.new.targets,
   copies_file _ _ _ _ _ _ _ _ _ _ c.afresh-targets.ensures
-      (rw c.path.ensures at c.copy_to.ensures.came),
+      (rw c.path-path.ensures at c.copy_to.ensures.came),
 )

@@ -11,9 +11,10 @@ use crate::found::{AsFound, ClosedFile, Found, FoundTables, OpenedStore};
 use crate::old_file::copy_of;
 use crate::older_files::OlderFiles;
 use crate::open::open_for;
-use crate::opening::opening_line;
+use crate::opening::show_opening;
 use crate::temporary_files::TemporaryFiles;
-use commands::files::holds_bytes;
+use commands::files::{holds_bytes, size_of_file};
+use commands::progress::StderrLine;
 use control::BegunCopy;
 use sqlite::Start;
 use sqlite_trees::store::Store;
@@ -67,7 +68,8 @@ impl<'a> StoreFiles<OpenedStore, ClosedFile> for SystemStoreFiles<'a> {
         name: &'n str,
         purpose: Use,
     ) -> Result<OpenFile<'n, OpenedStore>, StoreRefusal> {
-        let line = opening_line(self.rt, name);
+        let line = StderrLine::on_stderr(self.rt, "open");
+        show_opening(self.rt.alloc(), &line, size_of_file(self.rt, name));
         let opened = open_for(self.rt, name, AsFound, purpose, self.room);
         line.clear();
         match opened {

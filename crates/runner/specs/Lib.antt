@@ -5,4 +5,5 @@ pub mod Opened
 pub mod Command
 pub mod Parts
 pub mod Reserve
+pub mod Settled
 pub mod Written

@@ -7,13 +7,16 @@ use store_files::refusal::StoreRefusal;
 
 /// What is asked of files beside their stores. No call changes what a file holds, so no history has it.
 pub trait FileChecks {
-    ghost use Rattle.std.specs.Prelude.{ℕ, List};
+    ghost use Rattle.std.specs.Prelude.{ℕ, List, Bool};
 
     /// No file of the store at the first name, or of another store, has the second name.
     ghost free: { Self → List ℕ → List ℕ → Type 0 };
 
     /// The names lead to two files.
     ghost apart: { Self → List ℕ → List ℕ → Type 0 };
+
+    /// What a sync of the log of the store at a path said: false if the disk failed.
+    ghost synced: { Self → List ℕ → Bool → Type 0 };
 
     /// Whether there is a file with this name that has no bytes. Folders and devices do not count.
     fn is_empty(&self, name: &str) -> bool;
@@ -38,7 +41,8 @@ pub trait FileChecks {
     /// Has the system write to the disk what it has of the log of the store at `path`, which stays as it is. False if
     /// the disk failed: the system may report that once, so the commit may not hear of it. If the log can't be opened,
     /// or memory runs out for its name, nothing is written, and the commit writes all.
-    fn sync_log(&self, path: &str) -> bool;
+    fn sync_log(&self, path: &str) -> bool
+        ensures { synced self.now path.now result };
 
     /// Returns a line on a terminal for a command that begins now, or None if there is no terminal.
     fn line(&self, _verb: &'static str) -> Option<StderrLine<'_>> {

@@ -1,4 +1,8 @@
-//! How long a slice of a copy takes.
+//! How long a slice of a copy takes, and when the log of the copy is written to the disk.
+
+ghost use Rattle.std.specs.Prelude.{◌≡◌, ◌≤◌};
+ghost use Rattle.runner.specs.Settled.{Begins, Counts, last_settled};
+
 use crate::file_checks::FileChecks;
 use histories::ClockFace;
 use slices::pace::Pace;
@@ -41,7 +45,12 @@ pub(crate) struct SlicePace<'a, C: ClockFace, L: FileChecks> {
 }
 
 impl<'a, C: ClockFace, L: FileChecks> SlicePace<'a, C, L> {
-    pub(crate) fn new(clock: &'a C, checks: &'a L, to: &'a str) -> SlicePace<'a, C, L> {
+    /// Returns the pace of a copy to this file, of which nothing is copied yet.
+    pub(crate) fn new(clock: &'a C, checks: &'a L, to: &'a str) -> SlicePace<'a, C, L>
+        ensures file { (result.checks.now ≡ checks.now) × (result.to.now ≡ to.now) }
+        ensures unsettled { result.unsettled ≡ 0 }
+        ensures latest { result.settled_at ≤ last_settled }
+    {
         SlicePace {
             clock,
             checks,
@@ -54,7 +63,12 @@ impl<'a, C: ClockFace, L: FileChecks> SlicePace<'a, C, L> {
     }
 
     /// Writes the log to the disk, and puts the next time off if that took long. False if the disk failed.
-    fn settle(&mut self) -> bool {
+    fn settle(&mut self) -> bool
+        ensures said { L.synced self.old.checks.now self.old.to.now result }
+        ensures settled { self.new.unsettled ≡ 0 }
+        ensures latest { self.old.settled_at ≤ last_settled → self.new.settled_at ≤ last_settled }
+        ensures file { (self.new.checks.now ≡ self.old.checks.now) × (self.new.to.now ≡ self.old.to.now) }
+    {
         let is_written = self.checks.sync_log(self.to);
         self.unsettled = 0;
         if self.has_taken(SLOW_MILLIS) {
@@ -76,19 +90,32 @@ impl<'a, C: ClockFace, L: FileChecks> SlicePace<'a, C, L> {
 }
 
 impl<'a, C: ClockFace, L: FileChecks> Pace for SlicePace<'a, C, L> {
-    fn begin(&mut self) -> bool {
+    fn begin(&mut self) -> bool
+        ensures begins { Begins (L.synced self.old.checks.now self.old.to.now)
+            self.old.unsettled self.old.settled_at self.new.unsettled result }
+        ensures latest { self.old.settled_at ≤ last_settled → self.new.settled_at ≤ last_settled }
+        ensures file { (self.new.checks.now ≡ self.old.checks.now) × (self.new.to.now ≡ self.old.to.now) }
+    {
         self.begun = self.clock.now().ok();
         self.bytes = 0;
         self.unsettled < self.settled_at || self.settle()
     }
 
-    fn note(&mut self, bytes: usize) {
+    fn note(&mut self, bytes: usize)
+        ensures counts { Counts self.old.unsettled bytes self.new.unsettled }
+        ensures latest { self.new.settled_at ≡ self.old.settled_at }
+        ensures file { (self.new.checks.now ≡ self.old.checks.now) × (self.new.to.now ≡ self.old.to.now) }
+    {
         let bytes = bytes.saturating_add(ROW);
         self.bytes = self.bytes.saturating_add(bytes);
         self.unsettled = self.unsettled.saturating_add(bytes);
     }
 
-    fn is_spent(&mut self) -> bool {
+    fn is_spent(&mut self) -> bool
+        ensures unsettled { self.new.unsettled ≡ self.old.unsettled }
+        ensures latest { self.new.settled_at ≡ self.old.settled_at }
+        ensures file { (self.new.checks.now ≡ self.old.checks.now) × (self.new.to.now ≡ self.old.to.now) }
+    {
         self.bytes >= BYTES || self.has_taken(MILLIS)
     }
 }

@@ -3,3 +3,4 @@ pub mod MigrateLemmas
 pub mod CopyLemmas
 pub mod Parts
 pub mod Written
+pub mod Idle

@@ -1,7 +1,8 @@
 -- Opening a store, and why a command is refused whose store is not opened.
-use Rattle.std.specs.Prelude.{ℕ, ◌≡◌, ◌⊎◌, List, Result, Ok, Err}
+use Rattle.std.specs.Prelude.{ℕ, ◌≡◌, ◌⊎◌, Bool, true, false, List, [], ◌∷◌, ◌++◌, Result, Ok, Err}
 use Rattle.sqlite_wal.specs.Recovery.{Image}
-use Rattle.store_files.specs.History.{Span, IsIdle, Refuses}
+use Rattle.store_files.specs.History.{Done, Span, IsIdle, Refuses}
+use Rattle.store_files.specs.declared.files.Deed.TheVariants.{Refused}
 use Rattle.world.specs.Store.{Shown}
 use Rattle.world.specs.World.{World}
 use Rattle.store.specs.Shown.{BeginsAt}
@@ -33,6 +34,17 @@ IsOfName why = (why ≡ store.Device) ⊎ (why ≡ store.Memory)
 -- alone at its name
 abbrev pub IsTargetRefusal : StoreRefusal → StoreRefusal → Type 0
 IsTargetRefusal told why = (told ≡ why) ⊎ ((why ≡ store.Device) × (told ≡ store.NotEmpty))
+
+-- What is told of a new store whose file was refused with `Device`: `not_empty` if it was said that a log stands alone
+-- at its name, and `device` if it was said that none does
+abbrev pub TellsLoneLog : {R : Type 0} → (Bool → Type 0) → R → R → R → Type 0
+TellsLoneLog lone not_empty device told = (lone true × (told ≡ not_empty)) ⊎ (lone false × (told ≡ device))
+
+-- so it is told if the file at `to` was refused with `Device`, and nothing else was done to the files of new stores
+abbrev pub MeetsLoneLog : {D R : Type 0} → (Bool → Type 0) → List (Done D) → List (Done D) → List ℕ → R → R → R
+    → Type 0
+MeetsLoneLog lone before after to not_empty device told =
+    after ≡ before ++ (to, Refused store.Device) ∷ [] → TellsLoneLog lone not_empty device told
 
 -- Nothing was done with the source, and the result says why: the new store's file is the source's, and was not opened,
 -- or the new store was to be opened, and was not.

@@ -8,6 +8,7 @@ ghost use Rattle.control.specs.declared.copies.CatalogRefusal.TheVariants as cat
 ghost use Rattle.control.specs.declared.copies.CopyRefusal.TheVariants.{Busy};
 ghost use Rattle.runner.specs.Copies as spec;
 ghost use Rattle.runner.specs.Copies.{CopiesInto, CopiesTo, CountsIn};
+ghost use Rattle.runner.specs.Opened.{MeetsLoneLog};
 ghost use Rattle.world.specs.Store.{HasCause};
 
 use crate::file_checks::{FileChecks, target_refusal};
@@ -176,6 +177,9 @@ where
     // No store was to be opened at a name that was not tested.
     ensures tested { (G.history targets.new ≡ G.history targets.old)
         ⊎ (L.free checks.now db.now to.now × L.apart checks.now db.now to.now) }
+    // If the file was refused with `Device`, this says whether a log stands alone there.
+    ensures lone { MeetsLoneLog (L.lone_log checks.now to.now) (G.history targets.old) (G.history targets.new) to.now
+        (Err CopyRefusal.NotEmpty) (Err CopyRefusal.Device) result }
 {
     if let Err(refusal) = checks.check_name(db, to) {
         return Err(copy_refusal(refusal));

@@ -1,7 +1,8 @@
 //! Extracting the part of some teams from the store of one file into that of another.
 
-ghost use Rattle.std.specs.Prelude.{◌≡◌, ◌⊎◌, map as each};
+ghost use Rattle.std.specs.Prelude.{◌≡◌, ◌⊎◌, Err, map as each};
 ghost use Rattle.runner.specs.Extract.{ExtractsFile, ExtractsPart, Fills};
+ghost use Rattle.runner.specs.Opened.{MeetsLoneLog};
 ghost use Rattle.store.specs.Extracted.{HasCauseInEither};
 ghost use Rattle.store.specs.Parts.{ExtractsTeams};
 
@@ -43,6 +44,9 @@ where
     // No store was to be opened at a name that was not tested.
     ensures tested { (G.history targets.new ≡ G.history targets.old)
         ⊎ (L.free checks.now db.now to.now × L.apart checks.now db.now to.now) }
+    // If the file was refused with `Device`, this says whether a log stands alone there.
+    ensures lone { MeetsLoneLog (L.lone_log checks.now to.now) (G.history targets.old) (G.history targets.new) to.now
+        (Err CommandRefusal.NotEmpty) (Err CommandRefusal.Device) result }
 {
     checks.check_name(db, to)?;
     if checks.is_empty(db) && checks.is_same(db, to) {
@@ -71,6 +75,9 @@ where
         (record { begins = G.begins; left = G.left; before = G.history targets.old; after = G.history targets.new })
         (each (λ team. team.now) teams.now) to.now source.old source.new result }
     ensures tested { (G.history targets.new ≡ G.history targets.old) ⊎ L.apart checks.now db.now to.now }
+    // If the file was refused with `Device`, this says whether a log stands alone there.
+    ensures lone { MeetsLoneLog (L.lone_log checks.now to.now) (G.history targets.old) (G.history targets.new) to.now
+        (Err CommandRefusal.NotEmpty) (Err CommandRefusal.Device) result }
 {
     if checks.is_same(db, to) {
         return Err(CommandRefusal::NotEmpty);

@@ -1,6 +1,6 @@
 //! What a command asks of files that it opens as stores, or has open, and where it shows how far it is.
 ghost use Rattle.std.specs.Prelude.{◌≡◌, false, IfErr, OnOk};
-ghost use Rattle.runner.specs.Opened.{IsOfName, IsTargetRefusal};
+ghost use Rattle.runner.specs.Opened.{IsOfName, IsTargetRefusal, TellsLoneLog};
 
 use commands::progress::StderrLine;
 use store_files::refusal::StoreRefusal;
@@ -14,6 +14,9 @@ pub trait FileChecks {
 
     /// The names lead to two files.
     ghost apart: { Self → List ℕ → List ℕ → Type 0 };
+
+    /// What is said of a name: true if a log stands alone there.
+    ghost lone_log: { Self → List ℕ → Bool → Type 0 };
 
     /// What a sync of the log of the store at a path said: false if the disk failed.
     ghost synced: { Self → List ℕ → Bool → Type 0 };
@@ -36,7 +39,8 @@ pub trait FileChecks {
 
     /// Whether there is no such file, or it has no bytes, and beside it stands a log that may be what is left of a
     /// store.
-    fn has_lone_log(&self, name: &str) -> bool;
+    fn has_lone_log(&self, name: &str) -> bool
+        ensures { lone_log self.now name.now result };
 
     /// Has the system write to the disk what it has of the log of the store at `path`, which stays as it is. False if
     /// the disk failed: the system may report that once, so the commit may not hear of it. If the log can't be opened,
@@ -57,7 +61,10 @@ pub(crate) fn target_refusal<L: FileChecks>(
     to: &str,
     refusal: StoreRefusal,
 ) -> StoreRefusal
-    ensures { IsTargetRefusal result refusal }
+    ensures refusal { IsTargetRefusal result refusal }
+    // Which of the two it is, is what is said of the log.
+    ensures lone { refusal ≡ StoreRefusal.Device
+        → TellsLoneLog (L.lone_log checks.now to.now) StoreRefusal.NotEmpty StoreRefusal.Device result }
 {
     if refusal == StoreRefusal::Device && checks.has_lone_log(to) {
         StoreRefusal::NotEmpty

@@ -131,6 +131,8 @@ impl<'a> FileChecks for SystemHost<'a> {
 
     ghost apart = { λ _ _ _. Unit {0} };
 
+    ghost lone_log = { λ _ _ _. Unit {0} };
+
     ghost synced = { λ _ _ _. Unit {0} };
 
     fn is_empty(&self, name: &str) -> bool {

@@ -1,6 +1,7 @@
 //! Migrating the store of a file of an older schema into the store of another file.
-ghost use Rattle.std.specs.Prelude.{◌≡◌, ◌≢◌, ◌⊎◌, false};
+ghost use Rattle.std.specs.Prelude.{◌≡◌, ◌≢◌, ◌⊎◌, false, Err};
 ghost use Rattle.runner.specs.Migrate.{MigratesCopy, MigratesEmpty, MigratesFile, MigratesTo};
+ghost use Rattle.runner.specs.Opened.{MeetsLoneLog};
 ghost use Rattle.sqlite.specs.Held.{state};
 ghost use Rattle.store.specs.Migrated.{HasCauseInOne, Migrates};
 
@@ -110,6 +111,9 @@ where
     // No store was to be opened at a name that was not tested.
     ensures tested { (G.history targets.new ≡ G.history targets.old)
         ⊎ (L.free checks.now from.now to.now × ((from.now ≢ to.now) × L.apart checks.now from.now to.now)) }
+    // If the file was refused with `Device`, this says whether a log stands alone there.
+    ensures lone { MeetsLoneLog (L.lone_log checks.now to.now) (G.history targets.old) (G.history targets.new) to.now
+        (Err CommandRefusal.NotEmpty) (Err CommandRefusal.Device) result }
 {
     checks.check_name(from, to)?;
     if names_no_file(from) {
@@ -146,6 +150,9 @@ where
         copy.now.path.bytes.items copy.now.log.bytes.items to.now result }
     ensures tested { (G.history targets.new ≡ G.history targets.old)
         ⊎ ((from.now ≢ to.now) × L.apart checks.now from.now to.now) }
+    // If the file was refused with `Device`, this says whether a log stands alone there.
+    ensures lone { MeetsLoneLog (L.lone_log checks.now to.now) (G.history targets.old) (G.history targets.new) to.now
+        (Err CommandRefusal.NotEmpty) (Err CommandRefusal.Device) result }
 {
     let mut old = older.open_unnamed(copy)?;
     let told = migrate_to(checks, targets, from, &mut old.store, to);
@@ -177,6 +184,9 @@ where
         to.now result }
     ensures tested { (G.history targets.new ≡ G.history targets.old)
         ⊎ ((from.now ≢ to.now) × L.apart checks.now from.now to.now) }
+    // If the file was refused with `Device`, this says whether a log stands alone there.
+    ensures lone { MeetsLoneLog (L.lone_log checks.now to.now) (G.history targets.old) (G.history targets.new) to.now
+        (Err CommandRefusal.NotEmpty) (Err CommandRefusal.Device) result }
 {
     let Ok(mut none) = Connection::open_in_memory(alloc) else {
         return Err(StoreRefusal::Memory.into());
@@ -202,6 +212,9 @@ where
         to.now old.old old.new result }
     ensures tested { (G.history targets.new ≡ G.history targets.old)
         ⊎ ((from.now ≢ to.now) × L.apart checks.now from.now to.now) }
+    // If the file was refused with `Device`, this says whether a log stands alone there.
+    ensures lone { MeetsLoneLog (L.lone_log checks.now to.now) (G.history targets.old) (G.history targets.new) to.now
+        (Err CommandRefusal.NotEmpty) (Err CommandRefusal.Device) result }
 {
     if is_one_file(checks, from, to) {
         return Err(CommandRefusal::NotEmpty);

@@ -28,6 +28,8 @@ impl<'a> FileChecks for MemoryHost<'a> {
 
     ghost apart = { λ _ _ _. Unit {0} };
 
+    ghost lone_log = { λ _ _ _. Unit {0} };
+
     ghost synced = { λ _ _ _. Unit {0} };
 
     fn is_empty(&self, _name: &str) -> bool {

@@ -4,3 +4,4 @@ pub mod CopyLemmas
 pub mod Parts
 pub mod Written
 pub mod Idle
+pub mod FirstLine

@@ -1,6 +1,8 @@
 //! Room on the disk of a served store: a file beside it, which is cut when an order needs room. That these lines do so
-//! is read and tested, and not proved.
-ghost use Rattle.std.specs.Prelude.{◌≡◌, [], if◌then◌else◌};
+//! is read and tested; only how the first line of that file is read is proved.
+ghost use Rattle.std.specs.Prelude.{◌≡◌, ◌<◌, ◌^◌, ℕ, [], IfSome, Some, if◌then◌else◌};
+ghost use Rattle.std.specs.Str.{IsUtf8};
+ghost use Rattle.runner.specs.Reserve.{IsFirstLine};
 
 use control::{KeepsRoom, Reserve, Room};
 use sqlite::Alter;
@@ -241,8 +243,13 @@ fn bytes_of(file: &File) -> io::Result<u64> {
     }
 }
 
-/// Returns the number that the first line of a reserve names, or None if it is no such line.
-fn number_in(front: &[u8]) -> Option<u64> {
+/// Returns the number that the first line of a reserve names. None if these bytes are not UTF-8, do not begin with such
+/// a line, or name a number of more than 64 bits.
+fn number_in(front: &[u8]) -> Option<u64>
+    ensures found { IfSome result (λ bytes. IsUtf8 front.now × IsFirstLine front.now bytes) }
+    ensures only { (bytes : ℕ) → bytes < 2 ^ 64 → IsUtf8 front.now → IsFirstLine front.now bytes
+        → result ≡ Some bytes }
+{
     let text = str::from_utf8(front).ok()?;
     let (number, _) = text.strip_prefix(TITLE)?.split_once(END)?;
     number.parse().ok()

@@ -105,7 +105,7 @@ pub fn act_on<
     D: WallClock + Drop,
     B: RandomBytes,
     S: Outlines + Keyring,
-    K: Copies<S>,
+    K: Copies<S, V>,
     V: Reserve<S>,
     P: Peer + Drop,
     Q: Operator + Drop,

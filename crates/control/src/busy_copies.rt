@@ -33,7 +33,7 @@ pub(crate) struct BusyCopies<'b, K, V> {
     how_far: Option<CopyProgress>,
 }
 
-impl<'a, 'b, 'c, N: Loan, M: Moment, S: Shelves, K: Copies<S>, V: Reserve<S>> CopyOrders<
+impl<'a, 'b, 'c, N: Loan, M: Moment, S: Shelves, K: Copies<S, V>, V: Reserve<S>> CopyOrders<
     MonitoredStore<'a, N, InsertTracker<'c, M, S>>,
 > for BusyCopies<'b, K, V> {
     ghost use Rattle.std.specs.Prelude.{◌≡◌, Some};
@@ -85,14 +85,17 @@ impl<'a, 'b, 'c, N: Loan, M: Moment, S: Shelves, K: Copies<S>, V: Reserve<S>> Co
         &self,
         shelves: &mut MonitoredStore<'a, N, InsertTracker<'c, M, S>>,
     ) -> Result<u64, StoreFault> {
-        count_in(self.copies, shelves.inner)
+        count_in::<M, S, K, V>(self.copies, shelves.inner)
     }
 
     fn figures<'s>(
         &self,
         shelves: &'s MonitoredStore<'a, N, InsertTracker<'c, M, S>>,
     ) -> Metrics<'s> {
-        shelves.figures_with(figures_in(self.copies, shelves.inner), self.how_far)
+        shelves.figures_with(
+            figures_in::<M, S, K, V>(self.copies, shelves.inner),
+            self.how_far,
+        )
     }
 
     fn give_up_room(&mut self) -> bool {
@@ -103,7 +106,7 @@ impl<'a, 'b, 'c, N: Loan, M: Moment, S: Shelves, K: Copies<S>, V: Reserve<S>> Co
 }
 
 /// Returns how many versions the store keeps. Fails as `Copies::versions` does.
-fn count_in<M: Moment, S: Shelves, K: Copies<S>>(
+fn count_in<M: Moment, S: Shelves, K: Copies<S, V>, V>(
     copies: &K,
     noting: &mut InsertTracker<'_, M, S>,
 ) -> Result<u64, StoreFault>
@@ -119,7 +122,7 @@ fn count_in<M: Moment, S: Shelves, K: Copies<S>>(
 }
 
 /// Returns what is known of the store beside its versions.
-fn figures_in<'s, M: Moment, S: Shelves, K: Copies<S>>(
+fn figures_in<'s, M: Moment, S: Shelves, K: Copies<S, V>, V>(
     copies: &K,
     noting: &'s InsertTracker<'_, M, S>,
 ) -> Metrics<'s>
@@ -138,7 +141,7 @@ pub(crate) fn obey_with<
     N: Loan,
     M: Moment,
     S: Keyring,
-    K: Copies<S>,
+    K: Copies<S, V>,
     V: Reserve<S>,
 >(
     alloc: Global,

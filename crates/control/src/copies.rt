@@ -7,6 +7,7 @@ use crate::reserve::KeepsRoom;
 use histories::ResetDeadline;
 use interleave::between::Between;
 use std::alloc::Global;
+use std::marker::PhantomData;
 use world::registry::StoreFault;
 use world::shelves::Shelves;
 
@@ -42,23 +43,29 @@ pub enum CatalogRefusal {
     Output,
 }
 
-/// A copy that is begun, to the file of a path. [`Copies::copy`] takes one for each copy. It is noted as it is made,
-/// and nothing else makes one.
+/// A copy that is begun, to the file of a path, and noted by a `V`. [`Copies::copy`] takes one for each copy. It is
+/// noted as it is made, and nothing else makes one.
 #[derive(Drop)]
-pub struct BegunCopy<'p> {
+pub struct BegunCopy<'p, V> {
     path: &'p str,
+    notes: PhantomData<V>,
 }
 
-impl<'p> BegunCopy<'p> {
+impl<'p, V: KeepsRoom> BegunCopy<'p, V> {
     /// Notes that a copy to this path is begun, and returns it.
-    pub(crate) fn new<V: KeepsRoom>(path: &'p str, reserve: &mut V) -> BegunCopy<'p>
+    pub(crate) fn new(path: &'p str, reserve: &mut V) -> BegunCopy<'p, V>
         ensures path { result.path.now ≡ path.now }
         ensures noted { V.deeds reserve.new ≡ V.deeds reserve.old ++ BeganCopy path.now ∷ [] }
     {
         reserve.note_copy(path);
-        BegunCopy { path }
+        BegunCopy {
+            path,
+            notes: PhantomData,
+        }
     }
+}
 
+impl<'p, V> BegunCopy<'p, V> {
     /// Returns the path of its file.
     pub fn path(&self) -> &'p str
         ensures { result.now ≡ self.now.path.now }
@@ -67,8 +74,9 @@ impl<'p> BegunCopy<'p> {
     }
 }
 
-/// What copies a store while it is served, prints the catalogs of its keys, and counts what it keeps.
-pub trait Copies<S: Shelves> {
+/// What copies a store while it is served, prints the catalogs of its keys, and counts what it keeps. A `V` notes each
+/// copy.
+pub trait Copies<S: Shelves, V> {
     ghost use Rattle.std.specs.Prelude.{ℕ, ◌≡◌, ◌≢◌, ◌<◌, ◌≤◌, List, [], Err, IfErr, IfOk, IsErrOf};
     ghost use Rattle.std.specs.Io.KnownBytes.{Appends};
     ghost use Rattle.control.specs.Copying.{IsOnlyRead, Making, OfKey, ToPath};
@@ -103,7 +111,7 @@ pub trait Copies<S: Shelves> {
     fn copy<B: Between<S>>(
         &self,
         shelves: &mut S,
-        begun: BegunCopy<'_>,
+        begun: BegunCopy<'_, V>,
         between: &mut B,
     ) -> Result<(), CopyRefusal>
         ensures turns { (mid : S) × B.went between.old between.new shelves.old mid

@@ -46,7 +46,7 @@ pub fn serve_both<
     O: Operator + Drop,
     L: Callers<P, O>,
     S: Keyring,
-    K: Copies<S>,
+    K: Copies<S, V>,
     V: Reserve<S>,
     D: WallClock + Drop,
     E: Tell,
@@ -131,7 +131,7 @@ fn serve_lent<
     O: Operator + Drop,
     L: Callers<P, O>,
     S: Keyring,
-    K: Copies<S>,
+    K: Copies<S, V>,
     V: Reserve<S>,
     D: WallClock + Drop,
     E: Tell,
@@ -213,7 +213,7 @@ impl<
     /// Serves callers, one after another, until no more are to be taken.
     fn serve_each<N: Loan, S: Keyring>(&mut self, watched: &mut MonitoredStore<'_, N, S>)
     where
-        K: Copies<S>,
+        K: Copies<S, V>,
         V: Reserve<S>,
         requires { self.old.progress.taken ≡ 0 }
         ensures serves { Serves (both O.came O.reads) (both O.written O.writes)
@@ -244,7 +244,7 @@ impl<
     /// Ignores failures of the connection.
     fn obey_on<N: Loan, S: Keyring>(&mut self, operator: O, watched: &mut MonitoredStore<'_, N, S>)
     where
-        K: Copies<S>,
+        K: Copies<S, V>,
         V: Reserve<S>,
         requires { IsGoing self.old.progress.stops self.old.progress.left self.old.progress.taken }
         ensures serves { (door : Door (Caller P O))

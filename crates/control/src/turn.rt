@@ -62,7 +62,7 @@ impl<
         watched: &mut MonitoredStore<'_, N, InsertTracker<'b, M, S>>,
     )
     where
-        K: Copies<S>,
+        K: Copies<S, V>,
         V: Reserve<S>,
         requires { IsGoing self.old.progress.stops self.old.progress.left self.old.progress.taken }
         ensures obeys { ObeysMeanwhile (both O.came O.reads) (both O.written O.writes)
@@ -104,7 +104,7 @@ impl<
         watched: &mut MonitoredStore<'_, N, InsertTracker<'b, M, S>>,
     )
     where
-        K: Copies<S>,
+        K: Copies<S, V>,
         V: Reserve<S>,
         requires { IsGoing self.old.progress.stops self.old.progress.left self.old.progress.taken }
         ensures serves { (door : Door (Caller P O))
@@ -136,7 +136,7 @@ impl<
         watched: &mut MonitoredStore<'_, N, InsertTracker<'b, M, S>>,
     )
     where
-        K: Copies<S>,
+        K: Copies<S, V>,
         V: Reserve<S>,
         ensures serves { Serves (both O.came O.reads) (both O.written O.writes)
             (both P.came P.reads) (both P.written P.writes) L.known ⟦<InsertTracker<'b, M, S> as Shelves>⟧.shown
@@ -169,7 +169,7 @@ impl<
         noting: &'a mut InsertTracker<'b, M, S>,
     ) -> &'a mut InsertTracker<'b, M, S>
     where
-        K: Copies<S>,
+        K: Copies<S, V>,
         V: Reserve<S>,
         requires { noting.ghost_name ≡ N.name }
         ensures same_store { result.ghost_name ≡ noting.entry.ghost_name }
@@ -203,7 +203,7 @@ impl<
         news: &mut Newcomers,
     ) -> AfterTurn<'a, S>
     where
-        K: Copies<S>,
+        K: Copies<S, V>,
         V: Reserve<S>,
         requires name { shelves.ghost_name ≡ M.name }
         requires was { (w : World) → (S.shown shelves.old).stands w → M.was w }
@@ -248,7 +248,7 @@ impl<
     O: Operator + Drop,
     L: Callers<P, O>,
     S: Keyring,
-    K: Copies<S>,
+    K: Copies<S, V>,
     V: Reserve<S>,
     D: WallClock + Drop,
     E: Tell,
@@ -324,7 +324,7 @@ impl<
     L: Callers<P, O>,
     N: Loan,
     S: Keyring,
-    K: Copies<S>,
+    K: Copies<S, V>,
     V: Reserve<S>,
     D: WallClock + Drop,
     E: Tell,

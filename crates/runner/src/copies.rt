@@ -32,7 +32,7 @@ use world::shelves::Shelves;
 /// Files by which copies open their stores.
 pub(crate) trait CopyTargets: StoreFiles<OpenedStore, ClosedFile> + Drop {
     /// Returns such files for a copy that is begun, to which nothing was done.
-    fn afresh(&self, begun: BegunCopy<'_>) -> Self
+    fn afresh<V>(&self, begun: BegunCopy<'_, V>) -> Self
         ensures { Self.history result ≡ [] };
 }
 
@@ -68,7 +68,7 @@ pub(crate) struct FileCopies<'a, C, L, G> {
     pub targets: G,
 }
 
-impl<'a, S, C, L, G> Copies<SqlShelves<S>> for FileCopies<'a, C, L, G>
+impl<'a, S, C, L, G, V> Copies<SqlShelves<S>, V> for FileCopies<'a, C, L, G>
 where
     S: Alter,
     C: ClockFace,
@@ -97,7 +97,7 @@ where
     fn copy<B: Between<SqlShelves<S>>>(
         &self,
         shelves: &mut SqlShelves<S>,
-        begun: BegunCopy<'_>,
+        begun: BegunCopy<'_, V>,
         between: &mut B,
     ) -> Result<(), CopyRefusal> {
         let path = begun.path();

@@ -102,7 +102,7 @@ impl<'a> StoreFiles<OpenedStore, ClosedFile> for SystemStoreFiles<'a> {
 }
 
 impl<'a> CopyTargets for SystemStoreFiles<'a> {
-    fn afresh(&self, _begun: BegunCopy<'_>) -> SystemStoreFiles<'a> {
+    fn afresh<V>(&self, _begun: BegunCopy<'_, V>) -> SystemStoreFiles<'a> {
         SystemStoreFiles::new(self.rt, self.room)
     }
 }

@@ -2,11 +2,11 @@
 use Rattle.std.proofs.Common.{◌≡◌, ◌∙◌, ◌+◌, ℕ, List, [], ◌∷◌, ◌++◌, Option, ap, refl, subst, sym, append_assoc, append-nil}
 use Rattle.std.proofs.Common.{arith}
 use Rattle.histories.specs.Calls.{Writes}
-use Rattle.control.specs.Finds.{Did, ForPeer, IsNotOfRoom, Looked, Moment, TellsEachFind, TellsFinds, WritesAndDoes}
-use Rattle.control.specs.Finds.{Wrote, deeds_in, lines_in, peers_in}
+use Rattle.control.specs.Finds.{AreOfMoments, Did, ForPeer, Looked, Moment, TellsEachFind, WritesAndDoes, Wrote}
+use Rattle.control.specs.Finds.{deeds_in, dids, lines_in, wrotes}
 use Rattle.control.specs.Noted.{AreOfRoom, LooksOnce, LooksUnlessWhole}
-use Rattle.control.specs.Notices.{IsLineAbout, WritesLines}
-use Rattle.control.specs.Reserve.{DiskDeed, DoesMore, IsRenewal, Lent, Renewed}
+use Rattle.control.specs.Notices.{WritesLines}
+use Rattle.control.specs.Reserve.{DiskDeed, DoesMore, Lent, Renewed}
 use Rattle.control.specs.declared.reserve.Room.{Room}
 use Rattle.control.proofs.NoticeLemmas.{none_written, written_so, written_then}
 
@@ -103,74 +103,49 @@ deeds_both (ForPeer found lines deeds ∷ ms) ns =
 deeds_both (Did deed ∷ ms) ns = ap (λ l. deed ∷ l) (deeds_both ms ns)
 deeds_both (Wrote line ∷ ms) ns = deeds_both ms ns
 
-peers_both : (ms ns : List Moment) → peers_in (ms ++ ns) ≡ peers_in ms + peers_in ns
-peers_both [] ns = omega arith
-peers_both (Looked found lines ∷ ms) ns = peers_both ms ns
-peers_both (ForPeer found lines deeds ∷ ms) ns = omega (arith, peers_both ms ns)
-peers_both (Did deed ∷ ms) ns = peers_both ms ns
-peers_both (Wrote line ∷ ms) ns = peers_both ms ns
-
 tells_both : (a b c : Room) (ms ns : List Moment) → TellsEachFind a b ms → TellsEachFind b c ns
     → TellsEachFind a c (ms ++ ns)
 tells_both a b c [] ns one two = subst (λ r. TellsEachFind r c ns) one two
 tells_both a b c (Looked found lines ∷ ms) ns one two = (one.0, tells_both found b c ms ns one.1 two)
 tells_both a b c (ForPeer found lines deeds ∷ ms) ns one two = (one.0, tells_both found b c ms ns one.1 two)
-tells_both a b c (Did deed ∷ ms) ns one two = (one.0, tells_both a b c ms ns one.1 two)
-tells_both a b c (Wrote line ∷ ms) ns one two = (one.0, tells_both a b c ms ns one.1 two)
+tells_both a b c (Did deed ∷ ms) ns one two = tells_both a b c ms ns one two
+tells_both a b c (Wrote line ∷ ms) ns one two = tells_both a b c ms ns one two
 
 -- this, and then that
-pub finds_then : (n m k : ℕ) → k ≡ n + m → (a b c : Room) (xs ys : List (List ℕ)) (ds es : List DiskDeed)
-    → TellsFinds n a b xs ds → TellsFinds m b c ys es → TellsFinds k a c (xs ++ ys) (ds ++ es)
-finds_then n m k all a b c xs ys ds es one two = record {
-  moments = one.moments ++ two.moments;
-  are_peers = omega (arith, all, one.are_peers, two.are_peers, peers_both one.moments two.moments);
-  are_lines = ap (λ l. l ++ ys) one.are_lines ∙ ap (λ l. lines_in one.moments ++ l) two.are_lines
-      ∙ sym (lines_both one.moments two.moments);
-  are_deeds = ap (λ l. l ++ es) one.are_deeds ∙ ap (λ l. deeds_in one.moments ++ l) two.are_deeds
-      ∙ sym (deeds_both one.moments two.moments);
-  tells = tells_both a b c one.moments two.moments one.tells two.tells;
+pub moments_then : (ms ns : List Moment) (a b c : Room) (xs ys : List (List ℕ)) (ds es : List DiskDeed)
+    → AreOfMoments ms a b xs ds → AreOfMoments ns b c ys es → AreOfMoments (ms ++ ns) a c (xs ++ ys) (ds ++ es)
+moments_then ms ns a b c xs ys ds es one two = record {
+  are_lines = ap (λ l. l ++ ys) one.are_lines ∙ ap (λ l. lines_in ms ++ l) two.are_lines ∙ sym (lines_both ms ns);
+  are_deeds = ap (λ l. l ++ es) one.are_deeds ∙ ap (λ l. deeds_in ms ++ l) two.are_deeds ∙ sym (deeds_both ms ns);
+  tells = tells_both a b c ms ns one.tells two.tells;
 }
 
 -- nothing
-pub finds_none : (a : Room) → TellsFinds 0 a a [] []
-finds_none a = record { moments = []; are_peers = refl; are_lines = refl; are_deeds = refl; tells = refl }
+pub no_moments : (a : Room) → AreOfMoments [] a a [] []
+no_moments a = record { are_lines = refl; are_deeds = refl; tells = refl }
 
 -- the reserve was looked for
-pub finds_once : (a b : Room) (lines : List (List ℕ)) (deeds : List DiskDeed) → LooksOnce a b lines deeds
-    → TellsFinds 0 a b lines deeds
-finds_once a b lines deeds (are, is) = record {
-  moments = Looked b lines ∷ [];
-  are_peers = refl;
-  are_lines = sym (append-nil lines);
-  are_deeds = is;
-  tells = (are, refl);
-}
+pub looked_once : (a b : Room) (lines : List (List ℕ)) (deeds : List DiskDeed) → LooksOnce a b lines deeds
+    → AreOfMoments (Looked b lines ∷ []) a b lines deeds
+looked_once a b lines deeds (are, is) =
+    record { are_lines = sym (append-nil lines); are_deeds = is; tells = (are, refl) }
 
 -- so it was before a peer, unless all of it was there
-pub finds_for_peer : (a b : Room) (lines : List (List ℕ)) (deeds : List DiskDeed) → LooksUnlessWhole a b lines deeds
-    → TellsFinds 1 a b lines deeds
-finds_for_peer a b lines deeds looks = record {
-  moments = ForPeer b lines deeds ∷ [];
-  are_peers = refl;
-  are_lines = sym (append-nil lines);
-  are_deeds = sym (append-nil deeds);
-  tells = (looks, refl);
-}
+pub looked_for_peer : (a b : Room) (lines : List (List ℕ)) (deeds : List DiskDeed) → LooksUnlessWhole a b lines deeds
+    → AreOfMoments (ForPeer b lines deeds ∷ []) a b lines deeds
+looked_for_peer a b lines deeds looks =
+    record { are_lines = sym (append-nil lines); are_deeds = sym (append-nil deeds); tells = (looks, refl) }
 
--- a line of something else was written
-pub finds_line : (a : Room) (line : List ℕ) (lines : List (List ℕ)) → lines ≡ line ∷ [] → IsLineAbout IsNotOfRoom line
-    → TellsFinds 0 a a lines []
-finds_line a line lines is about =
-    record { moments = Wrote line ∷ []; are_peers = refl; are_lines = is; are_deeds = refl; tells = (about, refl) }
+-- lines of something else were written
+pub only_lines : (a : Room) (lines : List (List ℕ)) → AreOfMoments (wrotes lines) a a lines []
+only_lines a [] = record { are_lines = refl; are_deeds = refl; tells = refl }
+only_lines a (line ∷ lines) =
+    let more = only_lines a lines in
+    record { are_lines = ap (λ l. line ∷ l) more.are_lines; are_deeds = more.are_deeds; tells = more.tells }
 
 -- something else was done
-pub finds_deed : (a : Room) (deed : DiskDeed) (deeds : List DiskDeed) → deeds ≡ deed ∷ [] → ¬ IsRenewal deed
-    → TellsFinds 0 a a [] deeds
-finds_deed a deed deeds is other =
-    record { moments = Did deed ∷ []; are_peers = refl; are_lines = refl; are_deeds = is; tells = (other, refl) }
-
--- no line was written, and nothing was done
-pub finds_empty : (a : Room) (lines : List (List ℕ)) (deeds : List DiskDeed) → lines ≡ [] → deeds ≡ []
-    → TellsFinds 0 a a lines deeds
-finds_empty a lines deeds none idle =
-    record { moments = []; are_peers = refl; are_lines = none; are_deeds = idle; tells = refl }
+pub only_deeds : (a : Room) (deeds : List DiskDeed) → AreOfMoments (dids deeds) a a [] deeds
+only_deeds a [] = record { are_lines = refl; are_deeds = refl; tells = refl }
+only_deeds a (deed ∷ deeds) =
+    let more = only_deeds a deeds in
+    record { are_lines = more.are_lines; are_deeds = ap (λ l. deed ∷ l) more.are_deeds; tells = more.tells }

@@ -9,7 +9,7 @@ use Rattle.control.specs.Faults.{Admits}
 use Rattle.control.specs.Finds.{WritesAndDoes}
 use Rattle.control.specs.Noted.{AreOf, AreOfRoom, AreUnheld, CountsIf, CountsUnmet, IsAbout, LooksUnlessWhole, Noted}
 use Rattle.control.specs.Noted.{NotesFault, TellsPeer, noted_line}
-use Rattle.control.specs.Notices.{AtMostOne, IsLineAbout, IsOfFault, IsOfRoom, Lost, Met, Occasion, Reserved}
+use Rattle.control.specs.Notices.{AtMostOne, IsLineAbout, IsOfFault, Lost, Met, Occasion, Reserved}
 use Rattle.control.specs.Notices.{WritesLines, room_told}
 use Rattle.control.specs.Reserve.{DiskDeed, Lent, is_whole}
 use Rattle.control.specs.Traffic.{was_found, was_published}
@@ -102,15 +102,6 @@ pub some_of_fault : (noted : Noted) → IsLineAbout IsOfFault (noted_line noted)
     → ForSome (Some noted) (λ n. IsLineAbout IsOfFault (noted_line n))
 some_of_fault noted is = λ x same. subst OfFault same is
 
--- those of the room on the disk
-pub room_at_most : (old new : Room) (lines : List (List ℕ)) → AreOfRoom old new lines → AtMostOne IsOfRoom lines
-room_at_most old new lines (inl (same, none)) = inl none
-room_at_most old new lines (inr (changed, told, about, is)) = inr (
-  noted_line told,
-  is,
-  line_about IsOfRoom (Reserved (room_told (is_whole new))) told (is_whole new, refl) tt about,
-)
-
 -- those of the fault that a store noted
 fault_at_most : (faults faults_new : RecentFaults) (noted : Option Noted) (lines : List (List ℕ))
     → ForSome noted (λ n. IsLineAbout IsOfFault (noted_line n)) → AreUnheld faults faults_new noted lines
@@ -139,14 +130,13 @@ pub peer_written : (faults faults_new : RecentFaults) (noted : Option Noted) (e 
 peer_written faults faults_new noted e f g a b of one two =
     does_before LooksUnlessWhole (AreUnheld faults faults_new noted) (TellsPeer faults faults_new) e f g a b
     (λ room fault deeds looks are. record {
-      lines_are = record {
-        room = room;
-        fault = fault;
-        are = refl;
-        of_room = room_at_most a.1 b.1 room (room_unless_whole a.1 b.1 room deeds looks);
+      room = room;
+      fault = fault;
+      are = refl;
+      looks = looks;
+      tells = record {
         of_fault = fault_at_most faults faults_new noted fault of are;
         noted = noted;
         unheld = are;
       };
-      looks = looks;
     }) one two

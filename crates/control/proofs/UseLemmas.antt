@@ -15,10 +15,9 @@ use Rattle.control.specs.Copying.{Making, IsBusy, OfKey, ToPath}
 use Rattle.control.specs.Hearing.{Heard, Carried, Made, Listed, Pinged, Named, Stop, NoOrder, NoMemory, UsesRoomIf}
 use Rattle.control.specs.Noted.{LooksUnlessWhole}
 use Rattle.control.specs.Naming.{NamesOne, NamesNone, ReadError}
-use Rattle.control.specs.Reserve.{BeganCopy, DiskDeed, DoesMore, FindsNone, GaveUp, GivesUp, IsRenewal, IsUse, Lent}
+use Rattle.control.specs.Reserve.{BeganCopy, DiskDeed, DoesMore, FindsNone, GaveUp, GivesUp, IsUse, Lent}
 use Rattle.control.specs.Reserve.{Renewed, UsesRoom, begun_for, once_begun}
-use Rattle.control.specs.Reserve.{Made as RoomMade}
-use Rattle.control.specs.Uses.{BeginsRenewed, HasUses, IsUseIf}
+use Rattle.control.specs.Uses.{IsUseIf}
 use Rattle.control.specs.Visits.{Audience, Call, ObeysOne, OfOperator, OfPeer, Untaken}
 use Rattle.control.specs.declared.health.Health.{Health}
 use Rattle.control.specs.declared.copies.CatalogRefusal.TheVariants as unprinted
@@ -131,89 +130,3 @@ pub used_one : {O : Type 0} (heeded : O → Account × Reads) (told : O → Opti
 used_one heeded told made pinged idle meanwhile old new operator gone stops a b next one two =
     used_either idle meanwhile old new next.audience.heard a b (one next.audience.heard) two
     (ordered_if idle meanwhile old new next.audience.heard next.through)
-
--- ---- one after another
-
-begins_more : (deeds others : List DiskDeed) → BeginsRenewed deeds → BeginsRenewed (deeds ++ others)
-begins_more [] others begins = absurd begins
-begins_more (Renewed found ∷ deeds) others begins = begins
-begins_more (RoomMade found ∷ deeds) others begins = begins
-begins_more (GaveUp some ∷ deeds) others begins = begins
-begins_more (BeganCopy path ∷ deeds) others begins = begins
-
-module _ {P O : Type 0} where
-  uses_front : (calls : List (Call P O)) (others deeds : List DiskDeed) → All IsRenewal others → HasUses calls deeds
-      → HasUses calls (others ++ deeds)
-  uses_front [] others deeds are has = All-append IsRenewal others deeds are has
-  uses_front (OfPeer visit answered ∷ calls) others deeds are has = uses_front calls others deeds are has
-  uses_front (OfOperator x ∷ calls) others deeds are (front, own, rest, is, renewals, one, again, more) = (
-    others ++ front,
-    own,
-    rest,
-    ap (λ l. others ++ l) is ∙ sym (append_assoc others front (own ++ rest)),
-    All-append IsRenewal others front are renewals,
-    one,
-    again,
-    more,
-  )
-  uses_front (Untaken ∷ calls) others deeds are has = uses_front calls others deeds are has
-
-  -- callers, and then others
-  pub uses_then : (xs ys : List (Call P O)) (deeds others : List DiskDeed) → HasUses xs deeds → HasUses ys others
-      → HasUses (xs ++ ys) (deeds ++ others)
-  uses_then [] ys deeds others one two = uses_front ys deeds others one two
-  uses_then (OfPeer visit answered ∷ xs) ys deeds others one two = uses_then xs ys deeds others one two
-  uses_then (OfOperator x ∷ xs) ys deeds others (front, own, rest, is, renewals, one, again, more) two = (
-    front,
-    own,
-    rest ++ others,
-    ap (λ l. l ++ others) is ∙ append_assoc front (own ++ rest) others
-        ∙ ap (λ l. front ++ l) (append_assoc own rest others),
-    renewals,
-    one,
-    λ given. begins_more rest others (again given),
-    uses_then xs ys rest others more two,
-  )
-  uses_then (Untaken ∷ xs) ys deeds others one two = uses_then xs ys deeds others one two
-
--- the reserve was looked for once
-pub renewed : (found : Room) (deeds : List DiskDeed) → deeds ≡ Renewed found ∷ [] → All IsRenewal deeds
-renewed found deeds is =
-    subst (All IsRenewal) (sym is) (All-cons IsRenewal (Renewed found) [] tt (All-nil IsRenewal))
-
--- nothing else was done to it, whether or not it was looked for
-pub looks_renew : (old new : Room) (lines : List (List ℕ)) (deeds : List DiskDeed)
-    → LooksUnlessWhole old new lines deeds → All IsRenewal deeds
-looks_renew old new lines deeds (inl (whole, same, none, idle)) =
-    subst (All IsRenewal) (sym idle) (All-nil IsRenewal)
-looks_renew old new lines deeds (inr looks) = renewed new deeds looks.1.1
-
--- where it was looked for, room was taken again first of all
-pub begins_renewed : (found : Room) (deeds : List DiskDeed) → deeds ≡ Renewed found ∷ [] → BeginsRenewed deeds
-begins_renewed found deeds is = subst BeginsRenewed (sym is) tt
-
--- what is begun does not give room up
-none_given : (making : Making) (own rest : List DiskDeed) → own ≡ begun_for making → own ≡ GaveUp true ∷ []
-    → BeginsRenewed rest
-none_given (ToPath path (Ok done)) own rest is given = absurd (let e = sym is ∙ given in cc)
-none_given (ToPath path (Err refusal.NotEmpty)) own rest is given = absurd (let e = sym is ∙ given in cc)
-none_given (ToPath path (Err refusal.Device)) own rest is given = absurd (let e = sym is ∙ given in cc)
-none_given (ToPath path (Err refusal.Memory)) own rest is given = absurd (let e = sym is ∙ given in cc)
-none_given (ToPath path (Err refusal.Busy)) own rest is given = absurd (let e = sym is ∙ given in cc)
-none_given (ToPath path (Err refusal.Ended)) own rest is given = absurd (let e = sym is ∙ given in cc)
-none_given (OfKey key printed told) own rest is given = absurd (let e = sym is ∙ given in cc)
-
--- an operator who had something made, and then others and looks for the reserve
-pub uses_behind : {P O : Type 0} (x : Audience O) (making : Making) (calls : List (Call P O))
-    (own among looks : List DiskDeed) → x.heard ≡ Some (Made making) → own ≡ begun_for making → HasUses calls among
-    → All IsRenewal looks → HasUses (OfOperator x ∷ calls) (own ++ (among ++ looks))
-uses_behind x making calls own among looks is begun has are = (
-  [],
-  own,
-  among ++ looks,
-  refl,
-  All-nil IsRenewal,
-  subst (λ h. IsUseIf h own) (sym is) begun,
-  none_given making own (among ++ looks) begun,
-  subst (λ ys. HasUses ys (among ++ looks)) (append-nil calls) (uses_then calls [] among looks has are),
-)

@@ -1,10 +1,9 @@
 -- How much of the reserve was found each time that it was looked for, and the lines that say so.
-use Rattle.std.specs.Prelude.{ℕ, ◌≡◌, ◌+◌, ◌++◌, List, [], ◌∷◌, Option}
+use Rattle.std.specs.Prelude.{ℕ, ◌≡◌, ◌++◌, List, [], ◌∷◌, Option}
 use Rattle.histories.specs.Calls.{Writes}
 use Rattle.control.specs.Noted.{AreOfRoom, LooksUnlessWhole}
-use Rattle.control.specs.Notices.{Answered, Catalogued, Copied, Ended, IsLineAbout, Lost, Met, Occasion, Opened, Ordered}
-use Rattle.control.specs.Notices.{Reserved, Uncounted, WritesLines}
-use Rattle.control.specs.Reserve.{DiskDeed, IsRenewal, Lent, Renewed}
+use Rattle.control.specs.Notices.{WritesLines}
+use Rattle.control.specs.Reserve.{DiskDeed, Lent, Renewed}
 use Rattle.control.specs.declared.reserve.Room.{Room}
 
 -- such lines were written, such deeds were done to the same reserve meanwhile, and nothing else, where so much of it was
@@ -23,7 +22,7 @@ pub data Moment : Type 0 where
   ForPeer : Room → List (List ℕ) → List DiskDeed → Moment
   -- something else was done to it, or a copy was begun
   Did : DiskDeed → Moment
-  -- a line of something else was written
+  -- a line was written that is of something else
   Wrote : List ℕ → Moment
 
 -- the lines that were written, in their order
@@ -42,45 +41,31 @@ deeds_in (ForPeer found lines deeds ∷ moments) = deeds ++ deeds_in moments
 deeds_in (Did deed ∷ moments) = deed ∷ deeds_in moments
 deeds_in (Wrote line ∷ moments) = deeds_in moments
 
--- how many peers were answered
-abbrev pub peers_in : List Moment → ℕ
-peers_in [] = 0
-peers_in (Looked found lines ∷ moments) = peers_in moments
-peers_in (ForPeer found lines deeds ∷ moments) = peers_in moments + 1
-peers_in (Did deed ∷ moments) = peers_in moments
-peers_in (Wrote line ∷ moments) = peers_in moments
+-- deeds, one after another
+abbrev pub dids : List DiskDeed → List Moment
+dids [] = []
+dids (deed ∷ deeds) = Did deed ∷ dids deeds
 
--- a line is not one of the reserve
-abbrev pub IsNotOfRoom : Occasion → Type 0
-IsNotOfRoom (Opened file n) = Unit {0}
-IsNotOfRoom (Uncounted file fault) = Unit {0}
-IsNotOfRoom (Ordered command told) = Unit {0}
-IsNotOfRoom (Copied path told) = Unit {0}
-IsNotOfRoom (Catalogued key told) = Unit {0}
-IsNotOfRoom (Answered told) = Unit {0}
-IsNotOfRoom (Reserved told) = ⊥
-IsNotOfRoom (Met asked fault) = Unit {0}
-IsNotOfRoom (Ended file) = Unit {0}
-IsNotOfRoom Lost = Unit {0}
+-- lines, one after another
+abbrev pub wrotes : List (List ℕ) → List Moment
+wrotes [] = []
+wrotes (line ∷ lines) = Wrote line ∷ wrotes lines
 
 -- Each time that the reserve was looked for, a line was written of it if something else was found than the last time,
--- and else none; no other line is of it. It was looked for before each peer, unless all of it had been there. So much of
--- it had been found before, and so much was found last.
+-- and else none. It was looked for before each peer, unless all of it had been there. So much of it had been found
+-- before, and so much was found last.
 abbrev pub TellsEachFind : Room → Room → List Moment → Type 0
 TellsEachFind found found_new [] = found_new ≡ found
 TellsEachFind found found_new (Looked next lines ∷ moments) =
     AreOfRoom found next lines × TellsEachFind next found_new moments
 TellsEachFind found found_new (ForPeer next lines deeds ∷ moments) =
     LooksUnlessWhole found next lines deeds × TellsEachFind next found_new moments
-TellsEachFind found found_new (Did deed ∷ moments) = (¬ IsRenewal deed) × TellsEachFind found found_new moments
-TellsEachFind found found_new (Wrote line ∷ moments) =
-    IsLineAbout IsNotOfRoom line × TellsEachFind found found_new moments
+TellsEachFind found found_new (Did deed ∷ moments) = TellsEachFind found found_new moments
+TellsEachFind found found_new (Wrote line ∷ moments) = TellsEachFind found found_new moments
 
--- so it was, with so many peers, these lines and these deeds
-pub record TellsFinds (peers : ℕ) (found found_new : Room) (lines : List (List ℕ)) (deeds : List DiskDeed) : Type 0
-  where
-    pub moments : List Moment
-    pub are_peers : peers ≡ peers_in moments
-    pub are_lines : lines ≡ lines_in moments
-    pub are_deeds : deeds ≡ deeds_in moments
-    pub tells : TellsEachFind found found_new moments
+-- these lines and these deeds are those of the moments, and so it was
+pub record AreOfMoments (moments : List Moment) (found found_new : Room) (lines : List (List ℕ)) (deeds : List DiskDeed) :
+    Type 0 where
+  pub are_lines : lines ≡ lines_in moments
+  pub are_deeds : deeds ≡ deeds_in moments
+  pub tells : TellsEachFind found found_new moments

@@ -6,7 +6,7 @@ use Rattle.std.specs.declared.alloc.AllocError.{AllocError}
 use Rattle.engine.specs.declared.fault.Io.{Io}
 use Rattle.world.specs.declared.registry.StoreFault.{StoreFault}
 use Rattle.control.specs.Faults.{Admits}
-use Rattle.control.specs.Notices.{Answered, AtMostOne, IsOfFault, IsOfRoom, Lost, Met, Occasion, Reserved, line_of}
+use Rattle.control.specs.Notices.{Answered, AtMostOne, IsOfFault, Lost, Met, Occasion, Reserved, line_of}
 use Rattle.control.specs.Notices.{room_told}
 use Rattle.control.specs.Reserve.{DiskDeed, Renewed, is_whole}
 use Rattle.control.specs.Traffic.{CountsOne, StaysUncounted, was_published}
@@ -117,19 +117,18 @@ NotesAndLooks noted found found_new lines deeds =
     (own : List (List ℕ)) × (room : List (List ℕ)) × (lines ≡ own ++ room) × AreOf noted own
     × LooksOnce found found_new room deeds
 
--- The lines that are written for a peer: at most one of the room on the disk, and then at most one of a fault that its
--- store noted, which is admitted behind those of the last minute.
-pub record AreForPeer (faults faults_new : RecentFaults) (lines : List (List ℕ)) : Type 0 where
+-- the lines are at most one of a fault that a store noted, which is admitted behind those of the last minute
+pub record TellsFault (faults faults_new : RecentFaults) (lines : List (List ℕ)) : Type 0 where
+  pub of_fault : AtMostOne IsOfFault lines
+  pub noted : Option Noted
+  pub unheld : AreUnheld faults faults_new noted lines
+
+-- The lines that are written for a peer: those of what was found of the reserve, unless all of it had been there, and
+-- then at most one of a fault.
+pub record TellsPeer (faults faults_new : RecentFaults) (found found_new : Room) (lines : List (List ℕ))
+    (deeds : List DiskDeed) : Type 0 where
   pub room : List (List ℕ)
   pub fault : List (List ℕ)
   pub are : lines ≡ room ++ fault
-  pub of_room : AtMostOne IsOfRoom room
-  pub of_fault : AtMostOne IsOfFault fault
-  pub noted : Option Noted
-  pub unheld : AreUnheld faults faults_new noted fault
-
--- so it is, and those of the room are of what was found when the reserve was looked for
-pub record TellsPeer (faults faults_new : RecentFaults) (found found_new : Room) (lines : List (List ℕ))
-    (deeds : List DiskDeed) : Type 0 where
-  pub lines_are : AreForPeer faults faults_new lines
-  pub looks : LooksUnlessWhole found found_new lines_are.room deeds
+  pub looks : LooksUnlessWhole found found_new room deeds
+  pub tells : TellsFault faults faults_new fault

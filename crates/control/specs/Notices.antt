@@ -216,12 +216,6 @@ pub record WritesLines (are : List (List ℕ) → Type 0) (old new : Option (Lis
   pub no_fewer : old.1.failed ≤ new.1.failed
   pub whole : (old.1.failed < new.1.failed) ⊎ ((pieces ≡ lines) × (old.1.unflushed ≡ [] → new.1.unflushed ≡ []))
 
--- a line says whether all of the room on the disk is there, or that memory ran out for that
-abbrev pub IsOfRoom : Occasion → Type 0
-IsOfRoom (Reserved told) = (is_whole : Bool) × (told ≡ room_told is_whole)
-IsOfRoom Lost = Unit {0}
-IsOfRoom other = ⊥
-
 -- a line says which fault a store met, or that memory ran out for that, or for the counts of a shelf
 abbrev pub IsOfFault : Occasion → Type 0
 IsOfFault (Met asked fault) = Unit {0}

@@ -59,13 +59,6 @@ pub record UsesRoom (old new : Shown) (deeds deeds_new : List DiskDeed) (result 
   pub device : IsErrOf result Device → FindsNone deeds deeds_new
       ⊎ (GivesUp deeds deeds_new × GrewTwiceOrFull old.failures new.failures)
 
--- room was taken again
-abbrev pub IsRenewal : DiskDeed → Type 0
-IsRenewal (Renewed found) = Unit {0}
-IsRenewal (Made found) = ⊥
-IsRenewal (GaveUp some) = ⊥
-IsRenewal (BeganCopy path) = ⊥
-
 -- What an order that ended so did to the reserve, whatever the store had met before it: nothing, which is not so where
 -- it ended with a fault of the disk; it found no room, and ended with that fault; or it gave room up.
 abbrev pub IsUse : Result RegistryReply StoreFault → List DiskDeed → Type 0

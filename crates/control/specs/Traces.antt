@@ -7,13 +7,13 @@ use Rattle.engine.specs.declared.fault.Io.{Io}
 use Rattle.socket.specs.History.{Door, Known}
 use Rattle.socket.specs.declared.callers.Caller.{Caller}
 use Rattle.control.specs.Copying.{Making}
-use Rattle.control.specs.Finds.{TellsFinds, WritesAndDoes}
+use Rattle.control.specs.Finds.{AreOfMoments, ForPeer, Looked, Moment, WritesAndDoes, dids, wrotes}
 use Rattle.control.specs.Hearing.{Heard, done_notice}
-use Rattle.control.specs.Noted.{AreForPeer, IsNoted, LooksOnce, Noted}
-use Rattle.control.specs.Notices.{Answered, AtMostOne, IsOfRoom, Lost, Occasion, WritesLines, line_of}
+use Rattle.control.specs.Noted.{IsNoted, LooksOnce, Noted, TellsFault}
+use Rattle.control.specs.Notices.{Answered, Lost, Occasion, WritesLines, line_of}
 use Rattle.control.specs.Reserve.{DiskDeed, Lent}
-use Rattle.control.specs.Uses.{HasUses, IsUseIf}
-use Rattle.control.specs.Visits.{Call, EndsEach, IsLong, OfOperator, OfPeer, Untaken, peers}
+use Rattle.control.specs.Uses.{IsUseIf}
+use Rattle.control.specs.Visits.{Call, EndsEach, IsLong, OfOperator, OfPeer, Untaken}
 use Rattle.control.specs.declared.control_reply.ControlReply.{ControlReply}
 use Rattle.control.specs.declared.control_reply.ControlReply.TheVariants as spoken
 use Rattle.control.specs.declared.faults.RecentFaults.{RecentFaults}
@@ -46,12 +46,6 @@ abbrev pub AreFor : Option Occasion → List (List ℕ) → Type 0
 AreFor None lines = lines ≡ []
 AreFor (Some about) lines = (line : List ℕ) × (lines ≡ line ∷ []) × IsLineFor about line
 
--- the lines of an operator: one for its order, and then at most one of the room on the disk
-abbrev pub HasTrace : Option Heard → Result ControlReply Io → List (List ℕ) → Type 0
-HasTrace heard said lines =
-    (own : List (List ℕ)) × (room : List (List ℕ)) × (lines ≡ own ++ room) × AreFor (occasion_of heard said) own
-    × AtMostOne IsOfRoom room
-
 -- the lines for an order, behind which the reserve was looked for
 abbrev pub TellsOrder : Option Heard → Result ControlReply Io → Room → Room → List (List ℕ) → List DiskDeed → Type 0
 TellsOrder heard said found found_new lines deeds =
@@ -65,26 +59,29 @@ UsesAndTells heard said found found_new lines deeds =
     × TellsOrder heard said found found_new lines looks
 
 module _ {P O : Type 0} where
-  -- The lines are those of these callers, in their order; where something was made for an operator, its own come behind
-  -- those of the callers who were served meanwhile. The faults that are remembered go on by those of each peer.
-  abbrev pub HasLines : RecentFaults → RecentFaults → List (Call P O) → List (List ℕ) → Type 0
-  HasLines faults faults_new [] lines = (lines ≡ []) × (faults_new ≡ faults)
-  HasLines faults faults_new (OfPeer visit answered ∷ calls) lines =
-      (mid : RecentFaults) × (own : List (List ℕ)) × (rest : List (List ℕ)) × (lines ≡ own ++ rest)
-      × AreForPeer faults mid own × HasLines mid faults_new calls rest
-  HasLines faults faults_new (OfOperator x ∷ calls) lines =
-      (inner : List (List ℕ)) × (own : List (List ℕ)) × (rest : List (List ℕ)) × (lines ≡ inner ++ (own ++ rest))
-      × ((inner ≡ []) ⊎ IsLong x.heard) × HasTrace x.heard x.told own × HasLines faults faults_new calls (inner ++ rest)
-  HasLines faults faults_new (Untaken ∷ calls) lines = HasLines faults faults_new calls lines
+  -- The moments are those of these callers, in their order. For a peer the reserve was looked for first, and then there
+  -- is at most one line of a fault. An order first used the reserve as `IsUse` allows, or a copy was begun for it,
+  -- unless another was being made. Then come, where something was made for it, callers who were served meanwhile; and
+  -- then its own line, and that the reserve was looked for. The faults that are remembered go on by those of each peer.
+  abbrev pub HasMoments : RecentFaults → RecentFaults → List (Call P O) → List Moment → Type 0
+  HasMoments faults faults_new [] moments = (moments ≡ []) × (faults_new ≡ faults)
+  HasMoments faults faults_new (OfPeer visit answered ∷ calls) moments =
+      (mid : RecentFaults) × (found : Room) × (room : List (List ℕ)) × (looks : List DiskDeed) × (fault : List (List ℕ))
+      × (rest : List Moment) × (moments ≡ ForPeer found room looks ∷ (wrotes fault ++ rest))
+      × TellsFault faults mid fault × HasMoments mid faults_new calls rest
+  HasMoments faults faults_new (OfOperator x ∷ calls) moments =
+      (used : List DiskDeed) × (inner : List Moment) × (own : List (List ℕ)) × (found : Room) × (room : List (List ℕ))
+      × (rest : List Moment) × (moments ≡ dids used ++ (inner ++ (wrotes own ++ Looked found room ∷ rest)))
+      × IsUseIf x.heard used × ((inner ≡ []) ⊎ IsLong x.heard) × AreFor (occasion_of x.heard x.told) own
+      × HasMoments faults faults_new calls (inner ++ rest)
+  HasMoments faults faults_new (Untaken ∷ calls) moments = HasMoments faults faults_new calls moments
 
-  -- The lines are those of these callers. Each order used the reserve as `IsUse` allows, and a copy was begun for each
-  -- order of one, unless another was being made, and for nothing else. The lines of the reserve are of what was found,
-  -- also before each peer.
+  -- the lines and the deeds are those of such moments
   pub record HasTraces (calls : List (Call P O)) (faults faults_new : RecentFaults) (found found_new : Room)
       (lines : List (List ℕ)) (deeds : List DiskDeed) : Type 0 where
-    pub has : HasLines faults faults_new calls lines
-    pub uses : HasUses calls deeds
-    pub finds : TellsFinds (peers calls) found found_new lines deeds
+    pub moments : List Moment
+    pub has : HasMoments faults faults_new calls moments
+    pub are : AreOfMoments moments found found_new lines deeds
 
   -- so it is from the first fault on, where so much of the reserve was found before
   pub record HasAllTraces (found : Room) (calls : List (Call P O)) (lines : List (List ℕ)) (deeds : List DiskDeed) : Type 0

@@ -1,10 +1,8 @@
 -- What is done to the reserve for the orders that operators sent, and which copies are begun for them.
-use Rattle.std.specs.Prelude.{ℕ, ◌≡◌, true, List, [], ◌∷◌, ◌++◌, All, Option, Some, None}
+use Rattle.std.specs.Prelude.{◌≡◌, List, [], Option, Some, None}
 use Rattle.control.specs.Hearing.{Heard, Carried, Made, Named}
 use Rattle.control.specs.Naming.{Naming, NamesOne, NamesNone, ReadError}
-use Rattle.control.specs.Reserve.{BeganCopy, DiskDeed, GaveUp, IsRenewal, IsUse, Renewed, begun_for}
-use Rattle.control.specs.Reserve.{Made as RoomMade}
-use Rattle.control.specs.Visits.{Call, OfOperator, OfPeer, Untaken}
+use Rattle.control.specs.Reserve.{DiskDeed, IsUse, begun_for}
 
 -- these are the deeds of what came of a fingerprint: those of the registry command, if there was one
 abbrev pub IsUseNamed : Naming → List DiskDeed → Type 0
@@ -24,22 +22,3 @@ IsUseFor other own = own ≡ []
 abbrev pub IsUseIf : Option Heard → List DiskDeed → Type 0
 IsUseIf None own = own ≡ []
 IsUseIf (Some heard) own = IsUseFor heard own
-
--- room was taken again before anything else was done
-abbrev pub BeginsRenewed : List DiskDeed → Type 0
-BeginsRenewed [] = ⊥
-BeginsRenewed (Renewed found ∷ deeds) = Unit {0}
-BeginsRenewed (RoomMade found ∷ deeds) = ⊥
-BeginsRenewed (GaveUp some ∷ deeds) = ⊥
-BeginsRenewed (BeganCopy path ∷ deeds) = ⊥
-
--- the deeds are those of each order, one after another, and between them room was only taken again: first of all where
--- the order had it given up
-abbrev pub HasUses : {P O : Type 0} → List (Call P O) → List DiskDeed → Type 0
-HasUses [] deeds = All IsRenewal deeds
-HasUses (OfPeer visit answered ∷ calls) deeds = HasUses calls deeds
-HasUses (OfOperator x ∷ calls) deeds =
-    (front : List DiskDeed) × (own : List DiskDeed) × (rest : List DiskDeed)
-    × (deeds ≡ front ++ (own ++ rest)) × All IsRenewal front × IsUseIf x.heard own
-    × (own ≡ GaveUp true ∷ [] → BeginsRenewed rest) × HasUses calls rest
-HasUses (Untaken ∷ calls) deeds = HasUses calls deeds

@@ -3,16 +3,17 @@
 //! catalog, a count and a ping open none.
 
 ghost use Rattle.std.specs.Prelude.{◌≡◌, ◌≢◌, ◌⊎◌, [], Err, IfErr, IfOk, IsErrOf};
-ghost use Rattle.control.specs.Copying.{IsOnlyRead};
+ghost use Rattle.control.specs.Copying.{IsOnlyRead, ToPath};
 ghost use Rattle.control.specs.declared.copies.CatalogRefusal.TheVariants as catalog;
 ghost use Rattle.control.specs.declared.copies.CopyRefusal.TheVariants.{Busy};
 ghost use Rattle.runner.specs.Copies as spec;
-ghost use Rattle.runner.specs.Copies.{CopiesInto, CopiesTo, CountsIn};
+ghost use Rattle.runner.specs.Copies.{CopiesInto, CopiesTo, CountsIn, Makes};
 ghost use Rattle.runner.specs.Opened.{MeetsLoneLog};
 ghost use Rattle.world.specs.Store.{HasCause};
 
 use crate::file_checks::{FileChecks, target_refusal};
 use crate::found::{ClosedFile, Found, OpenedStore};
+use crate::reserve::SystemReserve;
 use crate::slice_pace::SlicePace;
 use catalog::PrintError;
 use catalog::between::{CatalogEnd, print_between};
@@ -32,7 +33,7 @@ use world::shelves::Shelves;
 /// Files by which copies open their stores.
 pub(crate) trait CopyTargets: StoreFiles<OpenedStore, ClosedFile> + Drop {
     /// Returns such files for a copy that is begun, to which nothing was done.
-    fn afresh<V>(&self, begun: BegunCopy<'_, V>) -> Self
+    fn afresh(&self, begun: BegunCopy<'_, SystemReserve<'_>>) -> Self
         ensures { Self.history result ≡ [] };
 }
 
@@ -68,7 +69,7 @@ pub(crate) struct FileCopies<'a, C, L, G> {
     pub targets: G,
 }
 
-impl<'a, S, C, L, G, V> Copies<SqlShelves<S>, V> for FileCopies<'a, C, L, G>
+impl<'a, S, C, L, G> Copies<SqlShelves<S>, SystemReserve<'a>> for FileCopies<'a, C, L, G>
 where
     S: Alter,
     C: ClockFace,
@@ -97,9 +98,17 @@ where
     fn copy<B: Between<SqlShelves<S>>>(
         &self,
         shelves: &mut SqlShelves<S>,
-        begun: BegunCopy<'_, V>,
+        begun: BegunCopy<'_, SystemReserve<'a>>,
         between: &mut B,
-    ) -> Result<(), CopyRefusal> {
+    ) -> Result<(), CopyRefusal>
+        ensures turns { (mid : _) × B.went between.old between.new shelves.old mid
+            × IsOnlyRead (⟦<SqlShelves<S> as Shelves>⟧.shown mid) (⟦<SqlShelves<S> as Shelves>⟧.shown shelves.new) }
+        ensures came { Makes ⟦<SqlShelves<S> as Shelves>⟧.shown
+            (λ (s : OpenedStore). ⟦<Found as Shelves>⟧.shown s.shelves) G.begins G.left G.history
+            shelves.old shelves.new (ToPath begun.entry.path.now result) }
+        ensures begun { IfErr result (λ why. why ≢ CopyRefusal.Busy) }
+        ensures ended { IsErrOf result CopyRefusal.Ended → B.ended between.new }
+    {
         let path = begun.path();
         let mut targets = self.targets.afresh(begun);
         copy_to(

@@ -12,6 +12,7 @@ use crate::old_file::copy_of;
 use crate::older_files::OlderFiles;
 use crate::open::open_for;
 use crate::opening::show_opening;
+use crate::reserve::SystemReserve;
 use crate::temporary_files::TemporaryFiles;
 use commands::files::{holds_bytes, size_of_file};
 use commands::progress::StderrLine;
@@ -102,7 +103,7 @@ impl<'a> StoreFiles<OpenedStore, ClosedFile> for SystemStoreFiles<'a> {
 }
 
 impl<'a> CopyTargets for SystemStoreFiles<'a> {
-    fn afresh<V>(&self, _begun: BegunCopy<'_, V>) -> SystemStoreFiles<'a> {
+    fn afresh(&self, _begun: BegunCopy<'_, SystemReserve<'_>>) -> SystemStoreFiles<'a> {
         SystemStoreFiles::new(self.rt, self.room)
     }
 }

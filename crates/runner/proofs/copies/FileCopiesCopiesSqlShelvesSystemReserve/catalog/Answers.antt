@@ -3,7 +3,7 @@ use Rattle.sqlite.specs.Held.{state}
 use Rattle.control.proofs.TaskLemmas.{read_none}
 use Rattle.store.specs.Shown.{shown_with}
 use Rattle.runner.proofs.CopyLemmas.{output_told, prints_alone}
-use Rattle.runner.proofs.copies.FileCopiesCopiesSqlShelves.catalog.Goals as goal
+use Rattle.runner.proofs.copies.FileCopiesCopiesSqlShelvesSystemReserve.catalog.Goals as goal
 
 pub returns-clause-turns : goal.returns-clause-turns
 returns-clause-turns g c =

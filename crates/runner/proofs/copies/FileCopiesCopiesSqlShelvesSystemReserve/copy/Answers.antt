@@ -1,6 +1,6 @@
 use Rattle.std.proofs.Common.{inl}
 use Rattle.runner.proofs.CopyLemmas.{copies_file}
-use Rattle.runner.proofs.copies.FileCopiesCopiesSqlShelves.copy.Goals as goal
+use Rattle.runner.proofs.copies.FileCopiesCopiesSqlShelvesSystemReserve.copy.Goals as goal
 
 pub returns-clause-came : goal.returns-clause-came
 returns-clause-came g c = inl (

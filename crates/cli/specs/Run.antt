@@ -13,6 +13,7 @@ use Rattle.commands.specs.declared.action.Action.TheVariants.{AddNew, Import, Pu
 use Rattle.commands.specs.declared.action.Action.TheVariants.{RevokeByFingerprint, Serve}
 use Rattle.commands.specs.declared.exit.Exit.{Exit}
 use Rattle.commands.specs.declared.exit.Exit.TheVariants.{Done, Refused, BadUsage}
+use Rattle.file_action.specs.OnFile.{FlushesAll}
 use Rattle.orders.specs.declared.order.Order.TheVariants.{Copy}
 use Rattle.runner.specs.declared.Command.{Command}
 use Rattle.runner.specs.declared.Command.TheVariants.{Send, Extract, Migrate, OnStore}
@@ -128,7 +129,8 @@ module _ {P : Type 0} (says : Sayings P) (runner : P) (errors errors_new : Optio
 -- `words` are the words after the name of the program
 module _ {P : Type 0} (ran : Ran P) (sayings : Sayings P) (words : List (List ℕ)) (old new : P) (came came_new : Account)
     (written written_new : Option (List ℕ)) (calls calls_new : Writes) where
-  -- the command that the words ask for was run, once, and the run ends by its result
+  -- The command that the words ask for was run, once, and the run ends by its result. If that is no refusal, all that was
+  -- printed is flushed.
   pub record RunsCommand (errors errors_new : Option (List ℕ) × Writes) (ended : Exit) : Type 0 where
     pub command : Command
     pub asks : Asks words command
@@ -137,6 +139,7 @@ module _ {P : Type 0} (ran : Ran P) (sayings : Sayings P) (words : List (List �
     pub warns : Warns sayings old errors errors_warned command
     pub explains : Explains sayings new errors_warned errors_new command told
     pub runs : ran old new came came_new written written_new told command
+    pub flushes : FlushesAll calls calls_new told
     pub ends : ended ≡ exit_of told
 
   -- No command was run, because the words ask for none or memory ran out. The text of that was to be shown, and nothing

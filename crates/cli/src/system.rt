@@ -25,6 +25,7 @@ use store_files::files::StoreFiles;
 /// Runs commands. A run of the program reaches the files of stores only by it.
 pub trait Runner {
     ghost use Rattle.cli.specs.Run.{Ran, Sayings};
+    ghost use Rattle.file_action.specs.OnFile.{FlushesAll};
 
     /// What running a command does.
     ghost ran: { Ran Self };
@@ -52,8 +53,10 @@ pub trait Runner {
         input: &mut I,
         output: &mut O,
     ) -> Result<bool, CommandRefusal>
-        ensures { ran self.old self.new (I.account input.old) (I.account input.new)
-            (O.contents output.old) (O.contents output.new) result command.now };
+        ensures runs { ran self.old self.new (I.account input.old) (I.account input.new)
+            (O.contents output.old) (O.contents output.new) result command.now }
+        // What was printed is flushed.
+        ensures flushed { FlushesAll (O.writes output.old) (O.writes output.new) result };
 }
 
 /// The system with its files, its servers and its entrances, and with all that was done to the files of stores, over

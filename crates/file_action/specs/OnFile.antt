@@ -1,10 +1,11 @@
 -- What an action on the store of a file does.
-use Rattle.std.specs.Prelude.{ℕ, List, [], ◌∷◌, ◌++◌, ◌≡◌, ◌⊎◌, Bool, true, false, Option, Result, Ok, Err}
+use Rattle.std.specs.Prelude.{ℕ, List, [], ◌∷◌, ◌++◌, ◌≡◌, ◌⊎◌, Bool, true, false, Option, Result, Ok, Err, OnOk}
 use Rattle.store_files.specs.History.{Span, Refuses, Opens}
 use Rattle.store_files.specs.declared.files.Deed.TheVariants.{Looked}
 use Rattle.store_files.specs.declared.files.Use.{Use}
 use Rattle.store_files.specs.declared.files.Use.TheVariants.{Reading, Writing}
 use Rattle.histories.specs.Account.{Account}
+use Rattle.histories.specs.Calls.{Writes}
 use Rattle.store_files.specs.declared.refusal.StoreRefusal.{StoreRefusal}
 use Rattle.commands.specs.Action.{Moment}
 use Rattle.commands.specs.declared.refusal.CommandRefusal.{CommandRefusal}
@@ -37,6 +38,10 @@ use_of (action.Requires version) = Reading
 use_of (action.List listing) = Reading
 use_of action.Answer = Reading
 use_of other = Writing
+
+-- If all that was written to the output before was flushed, a command that ended well flushed all that it wrote there.
+abbrev pub FlushesAll : Writes → Writes → Result Bool CommandRefusal → Type 0
+FlushesAll writes writes_new result = writes.unflushed ≡ [] → OnOk result (writes_new.unflushed ≡ [])
 
 -- what an action does, by the name of its file, the store and all else before it and after it, the result, and the
 -- action

@@ -6,7 +6,7 @@ use histories::{Hear, Tell};
 /// The system, as far as an action on a file needs it. The stores of its files are `S`, and `N` is what it reaches
 /// outside of them, such as entrances where callers come in, and files that are read.
 pub trait ActionHost<S, N> {
-    ghost use Rattle.file_action.specs.OnFile.{Deeds};
+    ghost use Rattle.file_action.specs.OnFile.{Deeds, FlushesAll};
 
     /// What doing an action does.
     ghost acts: { Deeds S N };
@@ -22,7 +22,7 @@ pub trait ActionHost<S, N> {
         input: &mut I,
         output: &mut O,
     ) -> Result<bool, CommandRefusal>
-        ensures { acts name.now
+        ensures does { acts name.now
             (record {
               store = shelves.old;
               outside = outside.old;
@@ -35,5 +35,7 @@ pub trait ActionHost<S, N> {
               came = I.account input.new;
               written = O.contents output.new;
             })
-            result action.now };
+            result action.now }
+        // What was printed is flushed.
+        ensures flushed { FlushesAll (O.writes output.old) (O.writes output.new) result };
 }

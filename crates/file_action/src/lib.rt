@@ -6,7 +6,7 @@
 
 ghost use Rattle.std.specs.Prelude.{◌≡◌};
 ghost use Rattle.file_action.specs.OnFile as spec;
-ghost use Rattle.file_action.specs.OnFile.{Inits, ActsOnFile};
+ghost use Rattle.file_action.specs.OnFile.{Inits, ActsOnFile, FlushesAll};
 
 pub mod host;
 pub mod refusal;
@@ -34,11 +34,13 @@ where
     F: StoreFiles<S, C>,
     I: Hear,
     W: Tell,
-    ensures { Inits H.acts
+    ensures inits { Inits H.acts
         (record { begins = F.begins; left = F.left; before = F.history files.old; after = F.history files.new })
         name.now outside.old outside.new (I.account input.old) (I.account input.new)
         (W.contents output.old) (W.contents output.new)
         result }
+    // What was printed is flushed.
+    ensures flushed { FlushesAll (W.writes output.old) (W.writes output.new) result }
 {
     if files.holds_bytes(name) {
         return Err(CommandRefusal::NotEmpty);
@@ -81,11 +83,13 @@ where
     F: StoreFiles<S, C>,
     I: Hear,
     W: Tell,
-    ensures { ActsOnFile H.acts
+    ensures acts { ActsOnFile H.acts
         (record { begins = F.begins; left = F.left; before = F.history files.old; after = F.history files.new })
         name.now outside.old outside.new (I.account input.old) (I.account input.new)
         (W.contents output.old) (W.contents output.new)
         action.now result }
+    // What was printed is flushed.
+    ensures flushed { FlushesAll (W.writes output.old) (W.writes output.new) result }
 {
     let mut file = files.open(name, use_of(action))?;
     let told = host.act(name, &mut file.store, outside, action, input, output);

@@ -1,5 +1,6 @@
 //! What a command asks of the system, beside opening and closing the stores of files.
 ghost use Rattle.commands.specs.Action.{Acts, of_entrances, of_files, of_random};
+ghost use Rattle.file_action.specs.OnFile.{FlushesAll};
 ghost use Rattle.runner.specs.Copies.{CountsIn, Makes};
 ghost use Rattle.socket.specs.Connections.{both};
 
@@ -305,7 +306,7 @@ fn act_in<
     input: &mut I,
     output: &mut O,
 ) -> Result<bool, CommandRefusal>
-    ensures { Acts
+    ensures acts { Acts
         (record {
           heeded = both Q.came Q.reads;
           told = both Q.written Q.writes;
@@ -335,6 +336,7 @@ fn act_in<
           written = O.contents output.new;
         })
         result action.now }
+    ensures flushed { FlushesAll (O.writes output.old) (O.writes output.new) result }
 {
     let copies = FileCopies {
         clock: rt,

@@ -18,6 +18,7 @@
 #![tactic(auto)]
 
 ghost use Rattle.commands.specs.Connection.{IsAll};
+ghost use Rattle.file_action.specs.OnFile.{FlushesAll};
 ghost use Rattle.runner.specs.Command.{Runs};
 
 mod beside;
@@ -130,7 +131,7 @@ where
     V: Servers<R, U>,
     I: Hear,
     W: Tell,
-    ensures { Runs H.acts H.state_of H.shown
+    ensures runs { Runs H.acts H.state_of H.shown
         (record { begins = F.begins; left = F.left; before = F.history files.old; after = F.history files.new })
         (record { begins = G.begins; left = G.left; before = G.history targets.old; after = G.history targets.new })
         (record { begins = Q.begins; left = Q.left; before = Q.history older.old; after = Q.history older.new })
@@ -139,6 +140,8 @@ where
         (V.history servers.old) (V.history servers.new) outside.old outside.new
         (I.account input.old) (I.account input.new) (W.contents output.old) (W.contents output.new)
         result command.now }
+    // What was printed is flushed.
+    ensures flushed { FlushesAll (W.writes output.old) (W.writes output.new) result }
 {
     match command {
         Command::Init { db } => init(host, files, outside, db, input, output),

@@ -2,25 +2,25 @@ use Rattle.std.proofs.Common.{refl, Ok}
 use Rattle.runner.proofs.Ran.{alone, ran}
 use Rattle.runner.proofs.run.Goals as goal
 
-pub returns-in-OnStore : goal.returns-in-OnStore
-returns-in-OnStore g c = ran _ _ _ _ _ _ _ _ _ _ _ _ _ _ _ _ _ _ c.in-OnStore.is (c.on_file.ensures, (refl, refl), refl)
+pub returns-in-OnStore-clause-runs : goal.returns-in-OnStore-clause-runs
+returns-in-OnStore-clause-runs g c = ran _ _ _ _ _ _ _ _ _ _ _ _ _ _ _ _ _ _ c.in-OnStore.is (c.on_file.ensures.acts, (refl, refl), refl)
 
-pub returns-in-Extract : goal.returns-in-Extract
-returns-in-Extract g c =
+pub returns-in-Extract-clause-runs : goal.returns-in-Extract-clause-runs
+returns-in-Extract-clause-runs g c =
     ran _ _ _ _ _ _ _ _ _ _ _ _ _ _ _ _ _ _ c.in-Extract.is
     (alone _ _ _ _ _ c.extract.result c.extract.ensures c.acceptance.ensures, refl, refl)
 
-pub returns-in-Migrate : goal.returns-in-Migrate
-returns-in-Migrate g c =
+pub returns-in-Migrate-clause-runs : goal.returns-in-Migrate-clause-runs
+returns-in-Migrate-clause-runs g c =
     ran _ _ _ _ _ _ _ _ _ _ _ _ _ _ _ _ _ _ c.in-Migrate.is
     (alone _ _ _ _ _ c.migrate.result c.migrate.ensures c.acceptance-in-Migrate.ensures, refl, refl)
 
-pub returns-in-Send : goal.returns-in-Send
-returns-in-Send g c = ran _ _ _ _ _ _ _ _ _ _ _ _ _ _ _ _ _ _ c.in-Send.is
+pub returns-in-Send-clause-runs : goal.returns-in-Send-clause-runs
+returns-in-Send-clause-runs g c = ran _ _ _ _ _ _ _ _ _ _ _ _ _ _ _ _ _ _ c.in-Send.is
     (record { does = c.send_at.ensures.sends; input = refl; idle = refl }, (refl, refl, refl))
 
-pub returns-in-OrderNew : goal.returns-in-OrderNew
-returns-in-OrderNew g c = ran _ _ _ _ _ _ _ _ _ _ _ _ _ _ _ _ _ _ c.in-OrderNew.is (
+pub returns-in-OrderNew-clause-runs : goal.returns-in-OrderNew-clause-runs
+returns-in-OrderNew-clause-runs g c = ran _ _ _ _ _ _ _ _ _ _ _ _ _ _ _ _ _ _ c.in-OrderNew.is (
   record {
     ended = c.order_new.result;
     does = c.order_new.ensures.orders;
@@ -31,8 +31,8 @@ returns-in-OrderNew g c = ran _ _ _ _ _ _ _ _ _ _ _ _ _ _ _ _ _ _ c.in-OrderNew.
   (refl, refl, refl),
 )
 
-pub returns-in_ok-answer_in_memory-in-AnswerInMemory : goal.returns-in_ok-answer_in_memory-in-AnswerInMemory
-returns-in_ok-answer_in_memory-in-AnswerInMemory g c = ran _ _ _ _ _ _ _ _ _ _ _ _ _ _ _ _ _ _ c.in-AnswerInMemory.is (
+pub returns-in_ok-answer_in_memory-in-AnswerInMemory-clause-runs : goal.returns-in_ok-answer_in_memory-in-AnswerInMemory-clause-runs
+returns-in_ok-answer_in_memory-in-AnswerInMemory-clause-runs g c = ran _ _ _ _ _ _ _ _ _ _ _ _ _ _ _ _ _ _ c.in-AnswerInMemory.is (
   record {
     ended = Ok c.in_ok-answer_in_memory-in-AnswerInMemory.field-0;
     answers = c.in_ok-answer_in_memory-in-AnswerInMemory.ensures.answers;

@@ -55,7 +55,8 @@ returns g c = record {
     errors_warned = _;
     warns = c.warn.ensures;
     explains = c.explain.ensures;
-    runs = c.run-told.ensures;
+    runs = c.run-told.ensures.runs;
+    flushes = c.run-told.ensures.flushed;
     ends = c.of_command.ensures;
   });
   says = c.end-2.ensures.says;

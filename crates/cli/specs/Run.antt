@@ -13,6 +13,7 @@ use Rattle.commands.specs.declared.action.Action.TheVariants.{AddNew, Import, Pu
 use Rattle.commands.specs.declared.action.Action.TheVariants.{RevokeByFingerprint, Serve}
 use Rattle.commands.specs.declared.exit.Exit.{Exit}
 use Rattle.commands.specs.declared.exit.Exit.TheVariants.{Done, Refused, BadUsage}
+use Rattle.file_action.specs.Cause.{Streams}
 use Rattle.file_action.specs.OnFile.{FlushesAll}
 use Rattle.orders.specs.declared.order.Order.TheVariants.{Copy}
 use Rattle.runner.specs.declared.Command.{Command}
@@ -50,6 +51,11 @@ SparesOutput other written written_new = written_new ≡ written
 -- on the output before and after, the result, and the command.
 abbrev pub Ran : Type 0 → Type 1
 Ran P = P → P → Account → Account → Option (List ℕ) → Option (List ℕ) → Result Bool CommandRefusal → Command → Type 0
+
+-- Why a command ended with `Io`: by the same, and the calls of its streams before and after.
+abbrev pub RunCauses : Type 0 → Type 1
+RunCauses P = P → P → Account → Account → Option (List ℕ) → Option (List ℕ) → Streams → Streams
+    → Result Bool CommandRefusal → Command → Type 0
 
 -- what a runner says when it is asked: whether the store of this name is new, whether a log stands alone at this name,
 -- and whether a person may see the errors
@@ -127,10 +133,10 @@ module _ {P : Type 0} (says : Sayings P) (runner : P) (errors errors_new : Optio
   Explains command told = errors_new ≡ errors
 
 -- `words` are the words after the name of the program
-module _ {P : Type 0} (ran : Ran P) (sayings : Sayings P) (words : List (List ℕ)) (old new : P) (came came_new : Account)
-    (written written_new : Option (List ℕ)) (calls calls_new : Writes) where
-  -- The command that the words ask for was run, once, and the run ends by its result. If that is no refusal, all that was
-  -- printed is flushed.
+module _ {P : Type 0} (ran : Ran P) (causes : RunCauses P) (sayings : Sayings P) (words : List (List ℕ)) (old new : P)
+    (came came_new : Account) (written written_new : Option (List ℕ)) (streams streams_new : Streams) where
+  -- The command that the words ask for was run, once, and the run ends by its result. If that is no refusal, all that
+  -- was printed is flushed. If it is `Io`, there is a cause.
   pub record RunsCommand (errors errors_new : Option (List ℕ) × Writes) (ended : Exit) : Type 0 where
     pub command : Command
     pub asks : Asks words command
@@ -139,7 +145,8 @@ module _ {P : Type 0} (ran : Ran P) (sayings : Sayings P) (words : List (List �
     pub warns : Warns sayings old errors errors_warned command
     pub explains : Explains sayings new errors_warned errors_new command told
     pub runs : ran old new came came_new written written_new told command
-    pub flushes : FlushesAll calls calls_new told
+    pub flushes : FlushesAll streams.writes streams_new.writes told
+    pub cause : causes old new came came_new written written_new streams streams_new told command
     pub ends : ended ≡ exit_of told
 
   -- No command was run, because the words ask for none or memory ran out. The text of that was to be shown, and nothing
@@ -147,7 +154,7 @@ module _ {P : Type 0} (ran : Ran P) (sayings : Sayings P) (words : List (List �
   pub record ShowsText (errors errors_new : Option (List ℕ) × Writes) (ended : Exit) : Type 0 where
     pub kind : ErrorKind
     pub why : IsShownFor words kind
-    pub ends : EndsShown calls calls_new kind ended
+    pub ends : EndsShown streams.writes streams_new.writes kind ended
     pub idle : new ≡ old
     pub input : came_new ≡ came
     pub output : SparesOutput kind written written_new

@@ -40,9 +40,12 @@ pub fn command<'a, I: Hear, O: Tell, E: Tell>(
     output: &mut O,
     errors: &mut E,
 ) -> u8
-    ensures { Exits ⟦<SystemStores<'a> as Runner>⟧.ran ⟦<SystemStores<'a> as Runner>⟧.says (texts words.now)
+    ensures { Exits ⟦<SystemStores<'a> as Runner>⟧.ran ⟦<SystemStores<'a> as Runner>⟧.causes
+        ⟦<SystemStores<'a> as Runner>⟧.says (texts words.now)
         stores.old stores.new (I.account input.old) (I.account input.new)
-        (O.contents output.old) (O.contents output.new) (O.writes output.old) (O.writes output.new)
+        (O.contents output.old) (O.contents output.new)
+        (record { reads = I.reads input.old; writes = O.writes output.old })
+        (record { reads = I.reads input.new; writes = O.writes output.new })
         (both E.contents E.writes errors.old) (both E.contents E.writes errors.new) result }
 {
     command_by(stores.alloc(), stores, words, input, output, errors)
@@ -58,9 +61,10 @@ pub fn command_by<P: Runner, I: Hear, O: Tell, E: Tell>(
     output: &mut O,
     errors: &mut E,
 ) -> u8
-    ensures { Exits P.ran P.says (texts words.now) runner.old runner.new
+    ensures { Exits P.ran P.causes P.says (texts words.now) runner.old runner.new
         (I.account input.old) (I.account input.new) (O.contents output.old) (O.contents output.new)
-        (O.writes output.old) (O.writes output.new)
+        (record { reads = I.reads input.old; writes = O.writes output.old })
+        (record { reads = I.reads input.new; writes = O.writes output.new })
         (both E.contents E.writes errors.old) (both E.contents E.writes errors.new) result }
 {
     let matches = match matches_of(alloc, VERSION, words) {

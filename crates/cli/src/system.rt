@@ -24,11 +24,14 @@ use store_files::files::StoreFiles;
 
 /// Runs commands. A run of the program reaches the files of stores only by it.
 pub trait Runner {
-    ghost use Rattle.cli.specs.Run.{Ran, Sayings};
+    ghost use Rattle.cli.specs.Run.{Ran, RunCauses, Sayings};
     ghost use Rattle.file_action.specs.OnFile.{FlushesAll};
 
     /// What running a command does.
     ghost ran: { Ran Self };
+
+    /// Why a command ended with `Io`.
+    ghost causes: { RunCauses Self };
 
     /// What it says when it is asked.
     ghost says: { Sayings Self };
@@ -56,7 +59,13 @@ pub trait Runner {
         ensures runs { ran self.old self.new (I.account input.old) (I.account input.new)
             (O.contents output.old) (O.contents output.new) result command.now }
         // What was printed is flushed.
-        ensures flushed { FlushesAll (O.writes output.old) (O.writes output.new) result };
+        ensures flushed { FlushesAll (O.writes output.old) (O.writes output.new) result }
+        // If it fails with `Io`, this is why.
+        ensures cause { causes self.old self.new (I.account input.old) (I.account input.new)
+            (O.contents output.old) (O.contents output.new)
+            (record { reads = I.reads input.old; writes = O.writes output.old })
+            (record { reads = I.reads input.new; writes = O.writes output.new })
+            result command.now };
 }
 
 /// The system with its files, its servers and its entrances, and with all that was done to the files of stores, over
@@ -113,6 +122,7 @@ impl<'a> SystemStores<'a> {
 
 impl<'a> Runner for SystemStores<'a> {
     ghost use Rattle.commands.specs.Connection.{IsAll};
+    ghost use Rattle.runner.specs.Cause.{CauseOf};
     ghost use Rattle.runner.specs.Command.{Runs};
 
     /// The command did what `Runs` says, and between these histories of files, servers, callers and files read nothing
@@ -137,6 +147,21 @@ impl<'a> Runner for SystemStores<'a> {
           left = ⟦<SystemOlderFiles<'a> as StoreFiles<ClosedFile, ClosedFile>>⟧.left;
           before = ⟦<SystemOlderFiles<'a> as StoreFiles<ClosedFile, ClosedFile>>⟧.history old.older;
           after = ⟦<SystemOlderFiles<'a> as StoreFiles<ClosedFile, ClosedFile>>⟧.history new.older;
+        })
+        (λ link passed. IsAll (⟦<Hearing<UnixStream> as Hear>⟧.account link.reader)
+        (⟦<Hearing<UnixStream> as Hear>⟧.reads link.reader)
+        (⟦<Telling<UnixStream> as Write>⟧.contents link.writer)
+        (⟦<Telling<UnixStream> as Tell>⟧.writes link.writer).failed passed)
+        (⟦<SystemServers<'a> as Servers<Hearing<UnixStream>, Telling<UnixStream>>>⟧.history old.servers)
+        (⟦<SystemServers<'a> as Servers<Hearing<UnixStream>, Telling<UnixStream>>>⟧.history new.servers)
+        old.outside new.outside };
+
+    ghost causes = { λ old new. CauseOf ⟦<SystemHost<'a> as ActionHost<OpenedStore, SystemOutside<'a>>>⟧.causes
+        (record {
+          begins = ⟦<SystemStoreFiles<'a> as StoreFiles<OpenedStore, ClosedFile>>⟧.begins;
+          left = ⟦<SystemStoreFiles<'a> as StoreFiles<OpenedStore, ClosedFile>>⟧.left;
+          before = ⟦<SystemStoreFiles<'a> as StoreFiles<OpenedStore, ClosedFile>>⟧.history old.files;
+          after = ⟦<SystemStoreFiles<'a> as StoreFiles<OpenedStore, ClosedFile>>⟧.history new.files;
         })
         (λ link passed. IsAll (⟦<Hearing<UnixStream> as Hear>⟧.account link.reader)
         (⟦<Hearing<UnixStream> as Hear>⟧.reads link.reader)

@@ -14,7 +14,7 @@ use Rattle.network.specs.History.{Done}
 use Rattle.commands.specs.Connection.{Passed}
 use Rattle.commands.specs.Ending.{Registers, ending}
 use Rattle.commands.specs.NewKey.{AddsDrawn, AddsKey, DrawsKey, EndsWithIo, FailsOr, HasCause, HasNoKeyOr}
-use Rattle.commands.specs.NewKey.{OrdersDrawn, OrdersNew}
+use Rattle.commands.specs.NewKey.{HasNoKeyOrOrder, HasNoNewKey, OrdersDrawn, OrdersNew}
 use Rattle.commands.specs.RandomBytes.{Drawn, no_draws}
 use Rattle.commands.specs.declared.refusal.CommandRefusal.{CommandRefusal}
 use Rattle.commands.specs.declared.refusal.CommandRefusal.TheVariants.{Io, Memory}
@@ -94,4 +94,16 @@ pub orders_new : {L : Type 0} (all : L → Passed → Type 0) (path : List ℕ) 
 orders_new all path before after drawn drawn_new shelf right written written_new result is orders = (
   drawn_new,
   subst (λ d. OrdersDrawn all path before after d drawn_new shelf right written written_new result) is orders,
+)
+
+-- so are the causes
+pub orders_new_cause : {L : Type 0} (all : L → Passed → Type 0) (path : List ℕ) (shelf : Bor (List ℕ)) (right : Right)
+    (before after : List (Done L)) (drawn drawn_new : Drawn) (writes writes_new : Writes)
+    (result : Result (Unit {0}) CommandRefusal) → drawn ≡ no_draws
+    → HasCause result (HasNoKeyOrOrder all path shelf right before after drawn drawn_new writes writes_new)
+    → HasCause result (HasNoNewKey all path shelf right before after writes writes_new)
+orders_new_cause all path shelf right before after drawn drawn_new writes writes_new (Ok u) is has = tt
+orders_new_cause all path shelf right before after drawn drawn_new writes writes_new (Err e) is has = λ io. (
+  drawn_new,
+  subst (λ d. HasNoKeyOrOrder all path shelf right before after d drawn_new writes writes_new) is (has io),
 )

@@ -135,6 +135,12 @@ abbrev pub HasNoKeyOrOrder : {L : Type 0} → (L → Passed → Type 0) → List
 HasNoKeyOrOrder all path shelf right before after =
     HasNoKeyOr (EndsWithIo (OrdersAt all path) shelf right before after)
 
+-- so it is where nothing was drawn before
+abbrev pub HasNoNewKey : {L : Type 0} → (L → Passed → Type 0) → List ℕ → Bor (List ℕ) → Right → List (Done L)
+    → List (Done L) → Writes → Writes → Type 0
+HasNoNewKey all path shelf right before after writes writes_new =
+    (drawn : Drawn) × HasNoKeyOrOrder all path shelf right before after no_draws drawn writes writes_new
+
 -- a command that ended with `Io` did so because of this
 abbrev pub HasCause : Result (Unit {0}) CommandRefusal → Type 0 → Type 0
 HasCause result cause = IfErr result (λ e. e ≡ Io → cause)

@@ -64,6 +64,12 @@ pub fn order_new_at<R: Hear, W: Tell, V: Servers<R, W>, O: Tell>(
         (W.contents link.writer) (W.writes link.writer).failed passed)
         path.now (V.history servers.old) (V.history servers.new) shelf.entry right
         (O.contents output.old) (O.contents output.new) result }
+    // It ends with `Io` as `order_new` does.
+    ensures cause { spec.HasCause result (spec.HasNoNewKey
+        (λ link passed. IsAll (R.account link.reader) (R.reads link.reader)
+        (W.contents link.writer) (W.writes link.writer).failed passed)
+        path.now shelf.entry right (V.history servers.old) (V.history servers.new)
+        (O.writes output.old) (O.writes output.new)) }
     // If it fails, it printed nothing, unless a call of the output failed.
     ensures whole { FailsUnprinted (O.contents output.old) (O.contents output.new)
         (O.writes output.old) (O.writes output.new) result }

@@ -5,6 +5,7 @@
 #![tactic(auto)]
 
 ghost use Rattle.std.specs.Prelude.{◌≡◌};
+ghost use Rattle.file_action.specs.Cause.{caused};
 ghost use Rattle.file_action.specs.OnFile as spec;
 ghost use Rattle.file_action.specs.OnFile.{Inits, ActsOnFile, FlushesAll};
 
@@ -41,6 +42,14 @@ where
         result }
     // What was printed is flushed.
     ensures flushed { FlushesAll (W.writes output.old) (W.writes output.new) result }
+    // If it fails with `Io`, the store was opened and `Action::Open` did, for this reason.
+    ensures cause { Inits (caused H.causes
+        (record { reads = I.reads input.old; writes = W.writes output.old })
+        (record { reads = I.reads input.new; writes = W.writes output.new }))
+        (record { begins = F.begins; left = F.left; before = F.history files.old; after = F.history files.new })
+        name.now outside.old outside.new (I.account input.old) (I.account input.new)
+        (W.contents output.old) (W.contents output.new)
+        result }
 {
     if files.holds_bytes(name) {
         return Err(CommandRefusal::NotEmpty);
@@ -90,6 +99,14 @@ where
         action.now result }
     // What was printed is flushed.
     ensures flushed { FlushesAll (W.writes output.old) (W.writes output.new) result }
+    // If it fails with `Io`, the store was opened and the action did, for this reason.
+    ensures cause { ActsOnFile (caused H.causes
+        (record { reads = I.reads input.old; writes = W.writes output.old })
+        (record { reads = I.reads input.new; writes = W.writes output.new }))
+        (record { begins = F.begins; left = F.left; before = F.history files.old; after = F.history files.new })
+        name.now outside.old outside.new (I.account input.old) (I.account input.new)
+        (W.contents output.old) (W.contents output.new)
+        action.now result }
 {
     let mut file = files.open(name, use_of(action))?;
     let told = host.act(name, &mut file.store, outside, action, input, output);

@@ -5,3 +5,4 @@ pub mod Parts
 pub mod Written
 pub mod Idle
 pub mod FirstLine
+pub mod Causes

@@ -7,3 +7,4 @@ pub mod Parts
 pub mod Reserve
 pub mod Settled
 pub mod Written
+pub mod Cause

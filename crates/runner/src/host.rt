@@ -1,5 +1,5 @@
 //! What a command asks of the system, beside opening and closing the stores of files.
-ghost use Rattle.commands.specs.Action.{Acts, of_entrances, of_files, of_random};
+ghost use Rattle.commands.specs.Action.{Acts, CauseOf, of_entrances, of_files, of_random};
 ghost use Rattle.file_action.specs.OnFile.{FlushesAll};
 ghost use Rattle.runner.specs.Copies.{CountsIn, Makes};
 ghost use Rattle.socket.specs.Connections.{both};
@@ -45,7 +45,7 @@ pub trait Host<S, C>: FileChecks {
     ghost use Rattle.std.specs.Prelude.{◌≡◌, [], OnOk, map as each};
     ghost use Rattle.sqlite.specs.State.{State};
     ghost use Rattle.commands.specs.Connection.{IsAll};
-    ghost use Rattle.commands.specs.NewKey.{OrdersNew};
+    ghost use Rattle.commands.specs.NewKey.{HasCause, HasNoNewKey, OrdersNew};
     ghost use Rattle.commands.specs.Printed.{FailsUnprinted};
     ghost use Rattle.runner.specs.Extract.{ExtractsFile};
     ghost use Rattle.runner.specs.Migrate.{MigratesFile};
@@ -103,6 +103,12 @@ pub trait Host<S, C>: FileChecks {
             (U.contents link.writer) (U.writes link.writer).failed passed)
             control.now (V.history servers.old) (V.history servers.new) shelf.entry right
             (O.contents output.old) (O.contents output.new) result }
+        // It ends with `Io` only if no key could be made, a call of the output failed, or the order ended so.
+        ensures cause { HasCause result (HasNoNewKey
+            (λ link passed. IsAll (R.account link.reader) (R.reads link.reader)
+            (U.contents link.writer) (U.writes link.writer).failed passed)
+            control.now shelf.entry right (V.history servers.old) (V.history servers.new)
+            (O.writes output.old) (O.writes output.new)) }
         // If it fails, it printed nothing, unless a call of the output failed.
         ensures whole { FailsUnprinted (O.contents output.old) (O.contents output.new)
             (O.writes output.old) (O.writes output.new) result }
@@ -187,7 +193,8 @@ impl<'a> FileSizes for SystemHost<'a> {
 /// What it reaches outside is where callers come in, the files that a publish and an import read, and what gives the
 /// random bytes of a key.
 impl<'a> ActionHost<OpenedStore, SystemOutside<'a>> for SystemHost<'a> {
-    ghost use Rattle.commands.specs.Action.{Acts, of_entrances, of_files, of_random};
+    ghost use Rattle.commands.specs.Action.{Acts, CauseOf, of_entrances, of_files, of_random};
+    ghost use Rattle.file_action.specs.Cause.{causes_within};
     ghost use Rattle.file_action.specs.OnFile.{within};
     ghost use Rattle.runner.specs.Copies.{CountsIn, Makes};
     ghost use Rattle.runner.specs.declared.found.OpenedStore.{OpenedStore};
@@ -211,6 +218,21 @@ impl<'a> ActionHost<OpenedStore, SystemOutside<'a>> for SystemHost<'a> {
         ⟦<SystemStoreFiles<'a> as StoreFiles<OpenedStore, ClosedFile>>⟧.left
         ⟦<SystemStoreFiles<'a> as StoreFiles<OpenedStore, ClosedFile>>⟧.history)
         (CountsIn ⟦<Found as Shelves>⟧.shown)) };
+
+    ghost causes = { causes_within (λ s. s.shelves) (λ before after streams streams_new. CauseOf
+        ⟦<Found as Shelves>⟧.shown before after
+        (record {
+          reads = streams.reads;
+          writes = streams.writes;
+          drawn = ⟦<SystemRandomBytes<'a> as RandomBytes>⟧.drawn before.outside.random;
+          files = ⟦<SystemFiles<'a> as Sources>⟧.history before.outside.files;
+        })
+        (record {
+          reads = streams_new.reads;
+          writes = streams_new.writes;
+          drawn = ⟦<SystemRandomBytes<'a> as RandomBytes>⟧.drawn after.outside.random;
+          files = ⟦<SystemFiles<'a> as Sources>⟧.history after.outside.files;
+        })) };
 
     fn act<I: Hear, O: Tell>(
         &mut self,
@@ -337,6 +359,32 @@ fn act_in<
         })
         result action.now }
     ensures flushed { FlushesAll (O.writes output.old) (O.writes output.new) result }
+    ensures cause { CauseOf ⟦<SqlShelves<S> as Shelves>⟧.shown
+        (record {
+          store = shelves.old;
+          outside = outside.old;
+          came = I.account input.old;
+          written = O.contents output.old;
+        })
+        (record {
+          store = shelves.new;
+          outside = outside.new;
+          came = I.account input.new;
+          written = O.contents output.new;
+        })
+        (record {
+          reads = I.reads input.old;
+          writes = O.writes output.old;
+          drawn = B.drawn outside.old.random;
+          files = F.history outside.old.files;
+        })
+        (record {
+          reads = I.reads input.new;
+          writes = O.writes output.new;
+          drawn = B.drawn outside.new.random;
+          files = F.history outside.new.files;
+        })
+        result action.now }
 {
     let copies = FileCopies {
         clock: rt,

@@ -19,6 +19,7 @@
 
 ghost use Rattle.commands.specs.Connection.{IsAll};
 ghost use Rattle.file_action.specs.OnFile.{FlushesAll};
+ghost use Rattle.runner.specs.Cause.{CauseOf};
 ghost use Rattle.runner.specs.Command.{Runs};
 
 mod beside;
@@ -142,6 +143,16 @@ where
         result command.now }
     // What was printed is flushed.
     ensures flushed { FlushesAll (W.writes output.old) (W.writes output.new) result }
+    // If it fails with `Io`, this is why.
+    ensures cause { CauseOf H.causes
+        (record { begins = F.begins; left = F.left; before = F.history files.old; after = F.history files.new })
+        (λ link passed. IsAll (R.account link.reader) (R.reads link.reader)
+        (U.contents link.writer) (U.writes link.writer).failed passed)
+        (V.history servers.old) (V.history servers.new) outside.old outside.new
+        (I.account input.old) (I.account input.new) (W.contents output.old) (W.contents output.new)
+        (record { reads = I.reads input.old; writes = W.writes output.old })
+        (record { reads = I.reads input.new; writes = W.writes output.new })
+        result command.now }
 {
     match command {
         Command::Init { db } => init(host, files, outside, db, input, output),

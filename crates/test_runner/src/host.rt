@@ -61,6 +61,8 @@ impl<'a> ActionHost<MapShelves, ()> for MemoryHost<'a> {
     // the tests look at results alone
     ghost acts = { λ _ _ _ _ _. Unit {0} };
 
+    ghost causes = { λ _ _ _ _ _ _. Unit {0} };
+
     fn act<I: Hear, O: Tell>(
         &mut self,
         _name: &str,

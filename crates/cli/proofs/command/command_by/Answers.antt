@@ -57,6 +57,7 @@ returns g c = record {
     explains = c.explain.ensures;
     runs = c.run-told.ensures.runs;
     flushes = c.run-told.ensures.flushed;
+    cause = c.run-told.ensures.cause;
     ends = c.of_command.ensures;
   });
   says = c.end-2.ensures.says;

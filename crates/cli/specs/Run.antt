@@ -1,6 +1,8 @@
 -- What one run of the program does.
 use Rattle.std.specs.Prelude.{ℕ, List, [], ◌∷◌, ◌≡◌, ◌==◌, ◌⊎◌, ◌++◌, codes, Bool, true, false, Option, Result, Err}
 use Rattle.std.specs.Prelude.{MatchResult}
+use Rattle.std.specs.declared.io.ErrorKind.{ErrorKind as IoErrorKind}
+use Rattle.std.specs.declared.io.ErrorKind.TheVariants as io
 use Rattle.histories.specs.Account.{Account}
 use Rattle.histories.specs.Calls.{Writes}
 use Rattle.clap.specs.declared.error.kind.ErrorKind.{ErrorKind}
@@ -172,10 +174,17 @@ module _ {P : Type 0} (ran : Ran P) (causes : RunCauses P) (sayings : Sayings P)
     pub says : Says errors_run errors_new ended
     pub tells : status ≡ status_of ended
 
--- The words could not be read, and the run ends by the reason: memory ran out, or a word is not UTF-8.
-pub record RefusesWords (errors errors_new : Option (List ℕ) × Writes) (status : ℕ) : Type 0 where
+-- How a run ends whose words could not be read, by an error of this kind: with `Memory` if memory ran out, and
+-- otherwise with bad usage.
+abbrev pub EndsUnread : IoErrorKind → Exit → Type 0
+EndsUnread io.OutOfMemory ended = ended ≡ Refused Memory
+EndsUnread _ ended = ended ≡ BadUsage
+
+-- The words could not be read, by an error of this kind, and the run ends by it.
+pub record RefusesWords (kind : IoErrorKind) (errors errors_new : Option (List ℕ) × Writes) (status : ℕ)
+    : Type 0 where
   pub ended : Exit
-  pub why : (ended ≡ Refused Memory) ⊎ (ended ≡ BadUsage)
+  pub why : EndsUnread kind ended
   pub errors_run : Option (List ℕ) × Writes
   pub silent : IsSilent errors errors_run ended
   pub says : Says errors_run errors_new ended

@@ -1,11 +1,12 @@
 //! One whole run of the program.
 ghost use Rattle.std.specs.Prelude.{◌≡◌, ◌++◌};
+ghost use Rattle.std.specs.IoError.{error_kind};
 ghost use Rattle.clap.specs.Values.{kind_of};
 ghost use Rattle.commands.specs.Exit.{IsSilent, Says, status_of};
 ghost use Rattle.args.specs.Table.{texts};
 ghost use Rattle.socket.specs.Connections.{both};
-ghost use Rattle.cli.specs.Run.{EndsShown, Exits, Explains, RefusesWords, SparesOutput, TellsLoneLog, TellsNew, Warns};
-ghost use Rattle.cli.specs.Run.{TellsOfCopy, is_absolute, new_store};
+ghost use Rattle.cli.specs.Run.{EndsShown, EndsUnread, Exits, Explains, RefusesWords, SparesOutput, TellsLoneLog};
+ghost use Rattle.cli.specs.Run.{TellsNew, TellsOfCopy, Warns, is_absolute, new_store};
 
 use crate::asked::command_of;
 use crate::parser_text::print_text;
@@ -208,14 +209,22 @@ fn show<O: Tell, E: Tell>(error: clap::Error, output: &mut O, errors: &mut E) ->
 /// Reports that the words could not be read, and returns the exit status. Words that are not UTF-8 are bad usage; if
 /// memory ran out, the run ends with `goshelf: memory`.
 pub fn words_refused<E: Tell>(error: io::Error, errors: &mut E) -> u8
-    ensures { RefusesWords (both E.contents E.writes errors.old) (both E.contents E.writes errors.new) result }
+    ensures { RefusesWords (error_kind error) (both E.contents E.writes errors.old)
+        (both E.contents E.writes errors.new) result }
 {
-    let ended = match error.kind() {
+    end(show_unread(&error, errors), errors)
+}
+
+/// Shows why the words could not be read, if that is not for memory, and returns how the run ended.
+fn show_unread<E: Tell>(error: &io::Error, errors: &mut E) -> Exit
+    ensures ends { EndsUnread (error_kind error.now) result }
+    ensures silent { IsSilent (both E.contents E.writes errors.old) (both E.contents E.writes errors.new) result }
+{
+    match error.kind() {
         io::ErrorKind::OutOfMemory => Exit::Refused(CommandRefusal::Memory),
         _ => {
             let _ = writeln!(errors, "error: an argument is not text");
             Exit::BadUsage
         }
-    };
-    end(ended, errors)
+    }
 }

@@ -11,8 +11,8 @@ pub record Streams : Type 0 where
   pub reads : Reads
   pub writes : Writes
 
--- why an action ended with `Io`, by the store and all else before it and after it, the calls of its streams before it
--- and after it, the result, and the action
+-- why an action ended with `Io`, and what else is known of how it ended, by the store and all else before it and after
+-- it, the calls of its streams before it and after it, the result, and the action
 abbrev pub Causes : Type 0 → Type 0 → Type 1
 Causes S N = Moment S N → Moment S N → Streams → Streams → Result Bool CommandRefusal → Action → Type 0
 

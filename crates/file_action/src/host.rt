@@ -12,7 +12,7 @@ pub trait ActionHost<S, N> {
     /// What doing an action does.
     ghost acts: { Deeds S N };
 
-    /// Why an action ended with `Io`.
+    /// Why an action ended with `Io`, and what else is known of how it ended.
     ghost causes: { Causes S N };
 
     /// Does an action on the open store of the file of this name, and returns whether it was accepted. Fails as the

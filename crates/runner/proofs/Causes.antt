@@ -1,5 +1,6 @@
 -- Which commands never end with `Io`, and why one does that makes a key.
-use Rattle.std.proofs.Common.{◌≡◌, ◌⊎◌, sym, subst, inl, inr, ℕ, List, Bool, Result, Ok, Err}
+use Rattle.std.proofs.Common.{◌≡◌, ◌⊎◌, sym, subst, inl, inr, ℕ, List, Bool, Option, Result, Ok, Err}
+use Rattle.histories.specs.Calls.{Writes}
 use Rattle.std.specs.Prelude.{IfErr}
 use Rattle.store_files.specs.History.{IsIdle, Refuses, Span}
 use Rattle.sqlite.specs.Held.{state}
@@ -11,6 +12,7 @@ use Rattle.store_files.specs.declared.refusal.StoreRefusal.TheVariants as store
 use Rattle.commands.specs.Action.{NeverIo, acceptance}
 use Rattle.commands.specs.Ending.{unopened}
 use Rattle.commands.specs.NewKey.{HasCause}
+use Rattle.commands.specs.Printed.{FailsUnprinted}
 use Rattle.commands.specs.declared.refusal.CommandRefusal.{CommandRefusal}
 use Rattle.commands.specs.declared.refusal.CommandRefusal.TheVariants.{Io, NotEmpty}
 use Rattle.file_action.specs.Refusal.{new_store_refusal}
@@ -154,3 +156,18 @@ pub made_key_cause : (cause : Type 0) (ended : Result (Unit {0}) CommandRefusal)
     → result ≡ acceptance ended → HasCause ended cause → IfErr result (λ e. e ≡ Io → cause)
 made_key_cause cause ended result is has =
     subst (λ r. IfErr r (λ e. e ≡ Io → cause)) (sym is) (accepted_cause cause ended has)
+
+accepted_unprinted : (written written_new : Option (List ℕ)) (writes writes_new : Writes)
+    (ended : Result (Unit {0}) CommandRefusal) → FailsUnprinted written written_new writes writes_new ended
+    → FailsUnprinted written written_new writes writes_new (acceptance ended)
+accepted_unprinted written written_new writes writes_new (Ok u) has = tt
+accepted_unprinted written written_new writes writes_new (Err why) has = has
+
+-- if the key that was to be made was refused, nothing was printed of it
+pub made_key_unprinted : (written written_new : Option (List ℕ)) (writes writes_new : Writes)
+    (ended : Result (Unit {0}) CommandRefusal) (result : Result Bool CommandRefusal) → result ≡ acceptance ended
+    → FailsUnprinted written written_new writes writes_new ended
+    → FailsUnprinted written written_new writes writes_new result
+made_key_unprinted written written_new writes writes_new ended result is has =
+    subst (FailsUnprinted written written_new writes writes_new) (sym is)
+    (accepted_unprinted written written_new writes writes_new ended has)

@@ -1,6 +1,7 @@
 //! What a command asks of the system, beside opening and closing the stores of files.
-ghost use Rattle.commands.specs.Action.{Acts, CauseOf, of_entrances, of_files, of_random};
+ghost use Rattle.commands.specs.Action.{Acts, of_entrances, of_files, of_random};
 ghost use Rattle.file_action.specs.OnFile.{FlushesAll};
+ghost use Rattle.runner.specs.Cause.{EndsFor};
 ghost use Rattle.runner.specs.Copies.{CountsIn, Makes};
 ghost use Rattle.socket.specs.Connections.{both};
 
@@ -193,7 +194,8 @@ impl<'a> FileSizes for SystemHost<'a> {
 /// What it reaches outside is where callers come in, the files that a publish and an import read, and what gives the
 /// random bytes of a key.
 impl<'a> ActionHost<OpenedStore, SystemOutside<'a>> for SystemHost<'a> {
-    ghost use Rattle.commands.specs.Action.{Acts, CauseOf, of_entrances, of_files, of_random};
+    ghost use Rattle.commands.specs.Action.{Acts, of_entrances, of_files, of_random};
+    ghost use Rattle.runner.specs.Cause.{EndsFor};
     ghost use Rattle.file_action.specs.Cause.{causes_within};
     ghost use Rattle.file_action.specs.OnFile.{within};
     ghost use Rattle.runner.specs.Copies.{CountsIn, Makes};
@@ -219,7 +221,7 @@ impl<'a> ActionHost<OpenedStore, SystemOutside<'a>> for SystemHost<'a> {
         ⟦<SystemStoreFiles<'a> as StoreFiles<OpenedStore, ClosedFile>>⟧.history)
         (CountsIn ⟦<Found as Shelves>⟧.shown)) };
 
-    ghost causes = { causes_within (λ s. s.shelves) (λ before after streams streams_new. CauseOf
+    ghost causes = { causes_within (λ s. s.shelves) (λ before after streams streams_new. EndsFor
         ⟦<Found as Shelves>⟧.shown before after
         (record {
           reads = streams.reads;
@@ -359,7 +361,7 @@ fn act_in<
         })
         result action.now }
     ensures flushed { FlushesAll (O.writes output.old) (O.writes output.new) result }
-    ensures cause { CauseOf ⟦<SqlShelves<S> as Shelves>⟧.shown
+    ensures cause { EndsFor ⟦<SqlShelves<S> as Shelves>⟧.shown
         (record {
           store = shelves.old;
           outside = outside.old;

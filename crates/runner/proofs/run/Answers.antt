@@ -1,5 +1,5 @@
 use Rattle.std.proofs.Common.{◌≡◌, refl, rules, Ok, Err}
-use Rattle.runner.proofs.Causes.{extract_never_io, made_key_cause, migrate_never_io}
+use Rattle.runner.proofs.Causes.{extract_never_io, made_key_cause, made_key_unprinted, migrate_never_io}
 use Rattle.runner.proofs.Ran.{alone, ran}
 use Rattle.runner.proofs.run.Goals as goal
 
@@ -64,8 +64,11 @@ returns-in-Send-clause-cause g c = rw c.in-Send.is c.send_at.ensures.cause
 
 pub returns-in-OrderNew-clause-cause : goal.returns-in-OrderNew-clause-cause
 returns-in-OrderNew-clause-cause g c =
-    rw c.in-OrderNew.is
-    (made_key_cause _ c.order_new.result _ c.acceptance-in-OrderNew.ensures c.order_new.ensures.cause)
+    rw c.in-OrderNew.is (
+      made_key_cause _ c.order_new.result _ c.acceptance-in-OrderNew.ensures c.order_new.ensures.cause,
+      made_key_unprinted _ _ (g.W.Tell.writes c.args.output.now) (g.W.Tell.writes c.order_new.new.output)
+          c.order_new.result _ c.acceptance-in-OrderNew.ensures c.order_new.ensures.whole,
+    )
 
 pub returns-in_err-answer_in_memory-in-AnswerInMemory-clause-cause :
     goal.returns-in_err-answer_in_memory-in-AnswerInMemory-clause-cause

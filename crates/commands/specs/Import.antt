@@ -1,8 +1,9 @@
 -- What an import does: a run of publishes over the rows of a list.
-use Rattle.std.specs.Prelude.{ℕ, ◌≡◌, ◌≢◌, ◌≤◌, ◌+◌, ◌⊎◌, List, [], ◌∷◌, ◌++◌, codes, length, map, Bool, if◌then◌else◌}
-use Rattle.std.specs.Prelude.{Option, Some, None, Result, Ok, Err, MatchResult}
+use Rattle.std.specs.Prelude.{ℕ, ◌≡◌, ◌≢◌, ◌≤◌, ◌+◌, ◌⊎◌, List, [], ◌∷◌, ◌++◌, codes, length, map, Bool, true}
+use Rattle.std.specs.Prelude.{if◌then◌else◌, Option, Some, None, Result, Ok, Err, MatchResult}
 use Rattle.std.specs.List.{list_all}
 use Rattle.std.specs.Io.KnownBytes.{Appends}
+use Rattle.csv.specs.Reading.{has_failed}
 use Rattle.csv.specs.declared.reader.Reader.{Reader}
 use Rattle.engine.specs.declared.fault.Io.{Io}
 use Rattle.engine.specs.declared.fault.Io.TheVariants as io
@@ -231,16 +232,21 @@ Closes n why accepted written written_new result =
     (λ e. (e ≡ ending_of accepted why) × Appends written written_new (closing_line n why))
     (λ e. (e ≡ io.Write) × PrintsFront written written_new (closing_line n why))
 
+-- the rest of the list is said to be unreadable only if its reader has failed: a read did, or memory ran out
+abbrev pub FailsToRead : {R : Type 0} → Reader R → Closing → Type 0
+FailsToRead reader closing.ReadError = has_failed reader ≡ true
+FailsToRead reader other = Unit {0}
+
 module _ {R : Type 0} (remaining : R → Option (List ℕ)) where
   -- the header was read, or the list does not begin with it
   abbrev pub HeaderRead : Option (List ℕ) → Reader R → Option Closing → Type 0
   HeaderRead list reader None = HasRead remaining list (header ∷ []) reader
-  HeaderRead list reader (Some why) = IsHeaderClosing list why
+  HeaderRead list reader (Some why) = IsHeaderClosing list why × FailsToRead reader why
 
   -- fields were read after these rows, or no row is done after them
   abbrev pub FieldsRead : Option (List ℕ) → List (List (List ℕ)) → Reader R → List (List ℕ) → Option Closing → Type 0
   FieldsRead list rows reader fields None = HasRead remaining list (rows ++ fields ∷ []) reader
-  FieldsRead list rows reader fields (Some why) = IsClosing list rows why
+  FieldsRead list rows reader fields (Some why) = IsClosing list rows why × FailsToRead reader why
 
   module _ (old new : Shown) (before after : List FileDone) (key : List ℕ) (list : Option (List ℕ))
       (rows : List (List (List ℕ))) (reader : Reader R) (n : ℕ) (written written_new : Option (List ℕ)) where
@@ -253,6 +259,7 @@ module _ {R : Type 0} (remaining : R → Option (List ℕ)) where
     pub record IsIdle (why : Closing) : Type 0 where
       pub through : GoesThrough old new before after key []
       pub closing : IsClosing list rows why
+      pub fails : FailsToRead reader why
       pub output : written_new ≡ written
 
     -- the next row was done and its line printed, or no row is done; or the output broke off in its line

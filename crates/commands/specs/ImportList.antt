@@ -1,8 +1,8 @@
 -- The list of an import: CSV with a header and five fields a row.
 use Rattle.std.specs.Prelude.{ℕ, ◌≡◌, ◌≢◌, List, [], ◌∷◌, ◌++◌, codes, length, true, Option, Some, None}
 use Rattle.csv.specs.Machine.{Read, next_record}
-use Rattle.csv.specs.Reading.{Reached, Ready, default_config, is_flexible, reader_config, reader_state, reader_trim}
-use Rattle.csv.specs.Reading.{source_of, strip_bom}
+use Rattle.csv.specs.Reading.{Reached, Ready, default_config, has_failed, is_flexible, reader_config, reader_state}
+use Rattle.csv.specs.Reading.{reader_trim, source_of, strip_bom}
 use Rattle.csv.specs.Records.{AllText}
 use Rattle.csv.specs.declared.error.ErrorKind.{ErrorKind}
 use Rattle.csv.specs.declared.error.ErrorKind.TheVariants as kind
@@ -86,9 +86,9 @@ module _ {R : Type 0} (remaining : R → Option (List ℕ)) (list : Option (List
     pub flexible : is_flexible reader ≡ true
     pub at : IsAt list rows (reader_state reader) (source_of remaining reader)
 
-  -- this comes after these rows
+  -- This comes after these rows; of a list that can't be read on, its reader has failed.
   abbrev pub Comes : List (List (List ℕ)) → Reader R → List (List ℕ) → NextRow → Type 0
   Comes rows reader fields next.Fields = HasRead (rows ++ fields ∷ []) reader
   Comes rows reader fields next.End = Meets list rows IsNone
   Comes rows reader fields next.NoText = Meets list rows IsNoText
-  Comes rows reader fields next.ReadError = Unit {0}
+  Comes rows reader fields next.ReadError = has_failed reader ≡ true

@@ -17,7 +17,8 @@ returns-in-Some-clause-imports g c =
     let list = g.L.Read.remaining c.args.list in
     closed key here here read read list written written _ [] 0 c.in-Some.closing _ c.close.result tt
     (nothing_done key here read)
-    (inr (refl, refl, c.in-Some.ensures list c.open-reader.ensures)) refl (appends_none written) c.close.ensures.closes
+    (inr (refl, refl, (c.in-Some.ensures list c.open-reader.ensures).0)) refl (appends_none written)
+    c.close.ensures.closes
 
 pub loop-number-init : goal.loop-number-init
 loop-number-init g c =

@@ -11,7 +11,8 @@ pub returns-in-Some-clause-steps : goal.returns-in-Some-clause-steps
 returns-in-Some-clause-steps g c =
     λ list rows so. record {
       through = nothing_done c.args.key.now _ _;
-      closing = c.in-Some.ensures list rows so;
+      closing = (c.in-Some.ensures list rows so).0;
+      fails = (c.in-Some.ensures list rows so).1;
       output = refl;
     }
 
@@ -25,6 +26,7 @@ returns-in_default-row_of-clause-steps g c =
         read_begins g.R.Read.remaining list (rows ++ fields_of c.read_row.new.fields ∷ []) c.read_row.new.reader
             (c.in_default.ensures list rows so),
       );
+      fails = tt;
       output = refl;
     }
 
